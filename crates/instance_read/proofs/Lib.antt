@@ -24,6 +24,9 @@ pub mod VrpProblemLemmas
 pub mod ReadVrpLemmas
 pub mod VrpLawProofs
 pub mod KeyLineProofs
+pub mod SolomonLemmas
+pub mod HeadingLemmas
+pub mod SingleLemmas
 pub mod ReadableLemmas
 pub mod SpelledLemmas
 pub mod EvidenceLemmas

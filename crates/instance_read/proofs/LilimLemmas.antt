@@ -1,6 +1,6 @@
 -- The first fault of a Li-Lim text, from the faults of its lines.
 use Rattle.std.proofs.Common.{◌≡◌, ℕ, zero, suc, ◌+◌, ◌<◌, ◌≤◌, Bool, true, false, cond, ◌⊎◌, inl, inr, ⊎_elim, List, [], ◌∷◌, ◌++◌, length, map, drop, Option}
-use Rattle.std.proofs.Common.{Some, None, refl, sym, ap, subst, ◌∙◌, arith, length-append}
+use Rattle.std.proofs.Common.{Some, None, refl, sym, ap, subst, ◌∙◌, arith, length-append, ℤ}
 use Rattle.std.specs.Prelude.{find, Contains}
 use Rattle.std.specs.List.{AllByRecursion, last_or}
 use Rattle.std.proofs.lemmas.Bool.{cases_lt, false≢true}
@@ -13,11 +13,11 @@ use Rattle.instance_read.specs.declared.faults.ReadFaultKind.{ReadFaultKind}
 use Rattle.instance_read.specs.declared.faults.ReadFaultKind.TheVariants.{PairMismatch, Truncated}
 use Rattle.instance_read.specs.declared.tasks.Task.{Task}
 use Rattle.instance_read.specs.Faults.{Class, OfLine, OfText, rank, HasNoFault, IsFirstFault, IsNoLater, IsNoLaterPlace}
-use Rattle.instance_read.specs.Lilim.{LilimFault, customers_of, header_fault, row_fault, task_fault}
+use Rattle.instance_read.specs.Lilim.{LilimFault, customers_of, header_fault, row_fault, stop_fault, task_limits}
 use Rattle.instance_read.specs.Pairs.{is_mismatched, task_of}
 use Rattle.instance_read.specs.Rows.{Row, rows_of}
 use Rattle.instance_read.specs.Tables.{ArePaired}
-use Rattle.instance_read.specs.TaskFaults.{HasNoKind, IsFirstKind, TaskLineFault, HasNoTaskFault, IsFirstTaskFault, LinesAbove}
+use Rattle.instance_read.specs.TaskFaults.{HasNoKind, IsFirstKind, StopLineFault, TaskLineFault, HasNoTaskFault, IsFirstTaskFault, LinesAbove}
 use Rattle.instance_read.proofs.TaskFaultLemmas.{rows_above, fault_above}
 
 pub cons_head : {X : Type 0} (x y : X) (xs ys : List X) → x ∷ xs ≡ y ∷ ys → x ≡ y
@@ -26,30 +26,31 @@ cons_head x y xs ys e = cc
 pub cons_tail : {X : Type 0} (x y : X) (xs ys : List X) → x ∷ xs ≡ y ∷ ys → xs ≡ ys
 cons_tail x y xs ys e = cc
 
--- a fault of one task line is a fault of these task lines
-split_fault : (previous : Option Task) (rows before : List Row) (row : Row) (after : List Row) (line : ℕ) (kind : ReadFaultKind) → rows ≡ before ++ row ∷ after
-    → row.line ≡ line → task_fault (last_or previous (map task_of before)) (words_of row.text) kind ≡ true → TaskLineFault previous rows line kind
-split_fault previous [] [] row after line kind e at fault = absurd (cc)
-split_fault previous [] (b ∷ before) row after line kind e at fault = absurd (cc)
-split_fault previous (r ∷ rows) [] row after line kind e at fault =
-    let P : Row → Type 0 = λ q. (q.line ≡ line) × (task_fault previous (words_of q.text) kind ≡ true) in
+-- a fault of one line with a stop is a fault of these lines
+pub split_fault : (limits : List (ℤ × ℤ)) (previous : Option Task) (rows before : List Row) (row : Row) (after : List Row) (line : ℕ) (kind : ReadFaultKind) → rows ≡ before ++ row ∷ after
+    → row.line ≡ line → stop_fault limits (last_or previous (map task_of before)) (words_of row.text) kind ≡ true → StopLineFault limits previous rows line kind
+split_fault limits previous [] [] row after line kind e at fault = absurd (cc)
+split_fault limits previous [] (b ∷ before) row after line kind e at fault = absurd (cc)
+split_fault limits previous (r ∷ rows) [] row after line kind e at fault =
+    let P : Row → Type 0 = λ q. (q.line ≡ line) × (stop_fault limits previous (words_of q.text) kind ≡ true) in
     inl (subst P (sym (cons_head r row rows after e)) (at, fault))
-split_fault previous (r ∷ rows) (b ∷ before) row after line kind e at fault =
+split_fault limits previous (r ∷ rows) (b ∷ before) row after line kind e at fault =
     let same : b ≡ r = sym (cons_head r b rows (before ++ row ∷ after) e) in
-    let P : Row → Type 0 = λ q. TaskLineFault (Some (task_of q)) rows line kind in
-    inr (subst P same (split_fault (Some (task_of b)) rows before row after line kind (cons_tail r b rows (before ++ row ∷ after) e) at fault))
+    let P : Row → Type 0 = λ q. StopLineFault limits (Some (task_of q)) rows line kind in
+    inr (subst P same (split_fault limits (Some (task_of b)) rows before row after line kind (cons_tail r b rows (before ++ row ∷ after) e) at fault))
 
 -- the lines before and after a line with a fault
-abbrev Split : Option Task → List Row → ℕ → ReadFaultKind → Type 0
-Split previous rows line kind =
+abbrev pub Split : List (ℤ × ℤ) → Option Task → List Row → ℕ → ReadFaultKind → Type 0
+Split limits previous rows line kind =
     (before : List Row) × (row : Row) × (after : List Row) × (rows ≡ before ++ row ∷ after) × (row.line ≡ line)
-    × (task_fault (last_or previous (map task_of before)) (words_of row.text) kind ≡ true)
+    × (stop_fault limits (last_or previous (map task_of before)) (words_of row.text) kind ≡ true)
 
-fault_split : (previous : Option Task) (rows : List Row) (line : ℕ) (kind : ReadFaultKind) → TaskLineFault previous rows line kind → Split previous rows line kind
-fault_split previous [] line kind f = absurd f
-fault_split previous (r ∷ rows) line kind (inl here) = ([], r, rows, refl, here.0, here.1)
-fault_split previous (r ∷ rows) line kind (inr later) =
-    let rest = fault_split (Some (task_of r)) rows line kind later in
+pub fault_split : (limits : List (ℤ × ℤ)) (previous : Option Task) (rows : List Row) (line : ℕ) (kind : ReadFaultKind) → StopLineFault limits previous rows line kind
+    → Split limits previous rows line kind
+fault_split limits previous [] line kind f = absurd f
+fault_split limits previous (r ∷ rows) line kind (inl here) = ([], r, rows, refl, here.0, here.1)
+fault_split limits previous (r ∷ rows) line kind (inr later) =
+    let rest = fault_split limits (Some (task_of r)) rows line kind later in
     (r ∷ rest.0, rest.1, rest.2, ap (λ xs. r ∷ xs) rest.3, rest.4, rest.5)
 
 -- a fault of a line is one of the header or of a task line
@@ -62,7 +63,7 @@ line_cases rows header rest [] row after line kind is split at fault =
     let P : Row → Type 0 = λ q. HeaderFault q line kind in
     inl (subst P (sym (cons_head header row rest after (sym is ∙ split))) (at, fault))
 line_cases rows header rest (b ∷ before) row after line kind is split at fault =
-    inr (split_fault None rest before row after line kind (cons_tail header b rest (before ++ row ∷ after) (sym is ∙ split)) at fault)
+    inr (split_fault task_limits None rest before row after line kind (cons_tail header b rest (before ++ row ∷ after) (sym is ∙ split)) at fault)
 
 -- a task on this line is mismatched
 abbrev Mismatch : List ℕ → ℕ → Type 0
@@ -112,7 +113,7 @@ module _ (text : List ℕ) (header : Row) (rest : List Row) (is : rows_of text �
   header_no_later : (found : ReadFaultKind) → IsFirstKind (header_fault (words_of header.text)) found → (line : ℕ) (kind : ReadFaultKind)
       → HeaderFault header line kind ⊎ TaskLineFault None rest line kind → IsNoLaterPlace header.line found line kind
   header_no_later found h line kind (inl here) = inr (here.0, h.1 kind here.1)
-  header_no_later found h line kind (inr later) = inl (fault_above header.line None rest line kind rest_above later)
+  header_no_later found h line kind (inr later) = inl (fault_above task_limits header.line None rest line kind rest_above later)
 
   header_cases : (found : ReadFaultKind) → IsFirstKind (header_fault (words_of header.text)) found → (class : Class) (line : ℕ) (kind : ReadFaultKind)
       → LilimFault text class line kind → IsNoLater OfLine header.line found class line kind
@@ -133,7 +134,7 @@ module _ (text : List ℕ) (header : Row) (rest : List Row) (is : rows_of text �
 
     pub task_first : (f : ReadFault) → IsFirstTaskFault None rest f → IsFirstFault (LilimFault text) f
     task_first f h =
-        let at = fault_split None rest f.line f.kind h.here in
+        let at = fault_split task_limits None rest f.line f.kind h.here in
         (OfLine, (header ∷ at.0, at.1, at.2, is ∙ ap (λ xs. header ∷ xs) at.3, at.4, at.5), task_cases f h)
 
     pub no_tasks_first : rest ≡ [] → IsFirstFault (LilimFault text) (record { line = length (lines_of text) + 1; kind = Truncated })

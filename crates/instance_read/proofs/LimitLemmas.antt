@@ -12,12 +12,13 @@ use Rattle.instance_read.specs.declared.faults.ReadFaultKind.TheVariants.{BadNum
 use Rattle.instance_read.specs.declared.tasks.FleetLine.{FleetLine}
 use Rattle.instance_read.specs.declared.tasks.Task.{Task}
 use Rattle.instance_read.specs.Fields.{field, value_at, passes_test, is_beyond, any_beyond, has_no_number, is_no_number, exceeds}
-use Rattle.instance_read.specs.FieldValues.{IsValue}
-use Rattle.instance_read.specs.Lilim.{header_fault, header_limits, is_out_of_order, task_fault, task_limits}
+use Rattle.instance_read.specs.FieldValues.{IsValue, numbers_fault}
+use Rattle.instance_read.specs.Lilim.{header_fault, header_limits, is_out_of_order, stop_fault, task_limits}
 use Rattle.instance_read.specs.Pairs.{task_of}
 use Rattle.instance_read.specs.Rows.{Row}
-use Rattle.instance_read.specs.Tables.{AreTasks, HeaderKeepsLimits, IsCustomer, AscendsFrom, IsHeader}
-use Rattle.instance_read.specs.TaskFaults.{HasNoKind, HasNoTaskFault}
+use Rattle.instance_read.specs.Solomon.{customer_limits}
+use Rattle.instance_read.specs.Tables.{AreLoads, AreTasks, HeaderKeepsLimits, IsCustomer, AscendsFrom, IsHeader}
+use Rattle.instance_read.specs.TaskFaults.{AreStopLimits, HasNoKind, HasNoStopFault}
 use Rattle.instance_read.proofs.TaskLemmas.{from_zero}
 
 pub within_from : (least most z : ℤ) → is_beyond (least, most) z ≡ false → (least ≤ℤ z) × (z ≤ℤ most)
@@ -65,6 +66,17 @@ header_limits_of words header none is =
       capacity = rw is.1 (magnitude_le 1000000 (value_at words 1) capacity.1);
     }
 
+-- the same for a line with fleet and capacity only
+pub two_limits_of : (words : List (List ℕ)) (header : FleetLine) → HasNoKind (numbers_fault 2 header_limits words) → IsHeader words header → HeaderKeepsLimits header
+two_limits_of words header none is =
+    let two = eqb-true (length words) 2 (not-false (length words == 2) (none FieldCount)) in
+    let fleet = values_of header_limits words 0 (omega (arith, two)) (none BadNumber) (none Range) (omega arith) in
+    let capacity = values_of header_limits words 1 (omega (arith, two)) (none BadNumber) (none Range) (omega arith) in
+    record {
+      fleet = rw is.0 (from_one_to 40000 (value_at words 0) fleet.1);
+      capacity = rw is.1 (magnitude_le 1000000 (value_at words 1) capacity.1);
+    }
+
 -- the time window of a task without a fault is not empty
 window_from : (e l : ℤ) → is_beyond (pos 0, pos 100000000) e ≡ false → is_beyond (pos 0, pos 100000000) l ≡ false → int_lt l e ≡ false → unsigned_abs e ≤ unsigned_abs l
 window_from (pos a) (pos b) low high h = ltb-false b a h
@@ -74,79 +86,109 @@ window_from (negsuc a) l low high h = absurd (false≢true (sym low))
 exceeds-is : (a b : ℤ) (x y : Option ℤ) → x ≡ Some a → y ≡ Some b → exceeds x y ≡ int_lt b a
 exceeds-is a b x y p q = ap (λ o. exceeds o y) p ∙ ap (λ o. exceeds (Some a) o) q
 
--- the task of a line without a fault, after the task before it
-module _ (previous : Option Task) (row : Row) (none : HasNoKind (task_fault previous (words_of row.text))) where
-  nine : length (words_of row.text) ≡ 9
-  nine = eqb-true (length (words_of row.text)) 9 (not-false (length (words_of row.text) == 9) (none FieldCount))
+-- the limits of a task's fields, and those of a customer's
+pub task_stop_limits : AreStopLimits task_limits
+task_stop_limits = record { seven = omega arith; number = refl; x = refl; y = refl; demand = refl; earliest = refl; latest = refl; service = refl }
 
-  value : (k : ℕ) → k < 9 → IsValue (get_or task_limits k (pos 0, pos 0)) (field (words_of row.text) k) (value_at (words_of row.text) k)
-  value k l = values_of task_limits (words_of row.text) k (omega (arith, nine)) (none BadNumber) (none Range) (omega arith)
+pub customer_stop_limits : AreStopLimits customer_limits
+customer_stop_limits = record { seven = omega arith; number = refl; x = refl; y = refl; demand = refl; earliest = refl; latest = refl; service = refl }
 
-  pub visit_of : IsVisit (task_of row).stop
-  unfolding task_of
-  visit_of =
-      let words = words_of row.text in
-      let e = value 4 (omega arith) in
-      let l = value 5 (omega arith) in
-      record {
-        x = within_from (negsuc 999999) (pos 1000000) (value_at words 1) (value 1 (omega arith)).1;
-        y = within_from (negsuc 999999) (pos 1000000) (value_at words 2) (value 2 (omega arith)).1;
-        window = window_from (value_at words 4) (value_at words 5) e.1 l.1 (sym (exceeds-is (value_at words 4) (value_at words 5) (field words 4) (field words 5) e.0 l.0) ∙ none EmptyWindow);
-        latest = magnitude_le 100000000 (value_at words 5) l.1;
-        service = magnitude_le 1000000 (value_at words 6) (value 6 (omega arith)).1;
-      }
+module _ (limits : List (ℤ × ℤ)) (are : AreStopLimits limits) where
+  -- the task of a line without a fault, after the task before it
+  module _ (previous : Option Task) (row : Row) (none : HasNoKind (stop_fault limits previous (words_of row.text))) where
+    counted : length (words_of row.text) ≡ length limits
+    counted = eqb-true (length (words_of row.text)) (length limits) (not-false (length (words_of row.text) == length limits) (none FieldCount))
 
-  number_small : (task_of row).stop.number ≤ 40000
-  unfolding task_of
-  number_small = magnitude_le 40000 (value_at (words_of row.text) 0) (value 0 (omega arith)).1
+    -- the number of a field with these limits
+    value : (k : ℕ) (l : ℤ × ℤ) → k < 7 → get_or limits k (pos 0, pos 0) ≡ l → IsValue l (field (words_of row.text) k) (value_at (words_of row.text) k)
+    value k l small is =
+        let P : ℤ × ℤ → Type 0 = λ m. IsValue m (field (words_of row.text) k) (value_at (words_of row.text) k) in
+        subst P is (values_of limits (words_of row.text) k (omega (arith, counted)) (none BadNumber) (none Range) (omega (arith, are.seven)))
 
-  demand_small : (task_of row).stop.demand ≤ℤ pos 1000000
-  unfolding task_of
-  demand_small = (within_from (negsuc 999999) (pos 1000000) (value_at (words_of row.text) 3) (value 3 (omega arith)).1).1
+    pub visit_of : IsVisit (task_of row).stop
+    unfolding task_of
+    visit_of =
+        let words = words_of row.text in
+        let e = value 4 (pos 0, pos 100000000) (omega arith) are.earliest in
+        let l = value 5 (pos 0, pos 100000000) (omega arith) are.latest in
+        record {
+          x = within_from (negsuc 999999) (pos 1000000) (value_at words 1) (value 1 (negsuc 999999, pos 1000000) (omega arith) are.x).1;
+          y = within_from (negsuc 999999) (pos 1000000) (value_at words 2) (value 2 (negsuc 999999, pos 1000000) (omega arith) are.y).1;
+          window = window_from (value_at words 4) (value_at words 5) e.1 l.1 (sym (exceeds-is (value_at words 4) (value_at words 5) (field words 4) (field words 5) e.0 l.0) ∙ none EmptyWindow);
+          latest = magnitude_le 100000000 (value_at words 5) l.1;
+          service = magnitude_le 1000000 (value_at words 6) (value 6 (pos 0, pos 1000000) (omega arith) are.service).1;
+        }
 
-  pub customer_of : 0 < (task_of row).stop.number → IsCustomer (task_of row)
-  customer_of above = record { stop = record { from_one = omega arith; to_max = number_small; visit = visit_of }; demand = demand_small }
+    number_small : (task_of row).stop.number ≤ 40000
+    unfolding task_of
+    number_small = magnitude_le 40000 (value_at (words_of row.text) 0) (value 0 (pos 0, pos 40000) (omega arith) are.number).1
 
-  pub in_order : is_out_of_order previous (pos (task_of row).stop.number) ≡ false
-  unfolding task_of
-  in_order =
-      let words = words_of row.text in
-      let first = value 0 (omega arith) in
-      ap (is_out_of_order previous) (sym (from_zero (pos 40000) (value_at words 0) first.1))
-      ∙ sym (ap (passes_test (is_out_of_order previous)) first.0) ∙ none TaskOrder
+    demand_small : (task_of row).stop.demand ≤ℤ pos 1000000
+    unfolding task_of
+    demand_small =
+        let demand = value_at (words_of row.text) 3 in
+        let l = get_or limits 3 (pos 0, pos 0) in
+        let P : ℤ → Type 0 = λ most. demand ≤ℤ most in
+        subst P are.demand (within_from l.0 l.1 demand (value 3 l (omega arith) refl).1).1
 
-none_head : (previous : Option Task) (row : Row) (rows : List Row) → HasNoTaskFault previous (row ∷ rows) → HasNoKind (task_fault previous (words_of row.text))
-none_head previous row rows h k = false_from_ne_true (task_fault previous (words_of row.text) k) (λ e. h row.line k (inl (refl, e)))
+    pub customer_of : 0 < (task_of row).stop.number → IsCustomer (task_of row)
+    customer_of above = record { stop = record { from_one = omega arith; to_max = number_small; visit = visit_of }; demand = demand_small }
 
-none_tail : (previous : Option Task) (row : Row) (rows : List Row) → HasNoTaskFault previous (row ∷ rows) → HasNoTaskFault (Some (task_of row)) rows
-none_tail previous row rows h line kind f = h line kind (inr f)
+    pub in_order : is_out_of_order previous (pos (task_of row).stop.number) ≡ false
+    unfolding task_of
+    in_order =
+        let words = words_of row.text in
+        let first = value 0 (pos 0, pos 40000) (omega arith) are.number in
+        ap (is_out_of_order previous) (sym (from_zero (pos 40000) (value_at words 0) first.1))
+        ∙ sym (ap (passes_test (is_out_of_order previous)) first.0) ∙ none TaskOrder
 
-rises : (previous : Task) (row : Row) → HasNoKind (task_fault (Some previous) (words_of row.text)) → previous.stop.number < (task_of row).stop.number
-rises previous row none = ltb-true previous.stop.number (task_of row).stop.number (not-false (int_lt (pos previous.stop.number) (pos (task_of row).stop.number)) (in_order (Some previous) row none))
+  none_head : (previous : Option Task) (row : Row) (rows : List Row) → HasNoStopFault limits previous (row ∷ rows) → HasNoKind (stop_fault limits previous (words_of row.text))
+  none_head previous row rows h k = false_from_ne_true (stop_fault limits previous (words_of row.text) k) (λ e. h row.line k (inl (refl, e)))
 
-ascending_tasks : (previous : Task) (rows : List Row) → HasNoTaskFault (Some previous) rows → AscendsFrom previous.stop.number (map task_of rows)
-ascending_tasks previous [] h = tt
-ascending_tasks previous (row ∷ rows) h =
-    (rises previous row (none_head (Some previous) row rows h), ascending_tasks (task_of row) rows (none_tail (Some previous) row rows h))
+  pub none_tail : (previous : Option Task) (row : Row) (rows : List Row) → HasNoStopFault limits previous (row ∷ rows) → HasNoStopFault limits (Some (task_of row)) rows
+  none_tail previous row rows h line kind f = h line kind (inr f)
 
-valid_tasks : (previous : Task) (rows : List Row) → HasNoTaskFault (Some previous) rows → AllByRecursion IsCustomer (map task_of rows)
-valid_tasks previous [] h = tt
-valid_tasks previous (row ∷ rows) h =
-    let none = none_head (Some previous) row rows h in
-    (customer_of (Some previous) row none (omega (arith, rises previous row none)), valid_tasks (task_of row) rows (none_tail (Some previous) row rows h))
+  rises : (previous : Task) (row : Row) → HasNoKind (stop_fault limits (Some previous) (words_of row.text)) → previous.stop.number < (task_of row).stop.number
+  rises previous row none = ltb-true previous.stop.number (task_of row).stop.number (not-false (int_lt (pos previous.stop.number) (pos (task_of row).stop.number)) (in_order (Some previous) row none))
+
+  ascending_tasks : (previous : Task) (rows : List Row) → HasNoStopFault limits (Some previous) rows → AscendsFrom previous.stop.number (map task_of rows)
+  ascending_tasks previous [] h = tt
+  ascending_tasks previous (row ∷ rows) h =
+      (rises previous row (none_head (Some previous) row rows h), ascending_tasks (task_of row) rows (none_tail (Some previous) row rows h))
+
+  valid_tasks : (previous : Task) (rows : List Row) → HasNoStopFault limits (Some previous) rows → AllByRecursion IsCustomer (map task_of rows)
+  valid_tasks previous [] h = tt
+  valid_tasks previous (row ∷ rows) h =
+      let none = none_head (Some previous) row rows h in
+      (customer_of (Some previous) row none (omega (arith, rises previous row none)), valid_tasks (task_of row) rows (none_tail (Some previous) row rows h))
 
 zero_from : (n : ℕ) → is_beyond (pos 0, pos 0) (pos n) ≡ false → n ≡ 0
 zero_from n e = omega (arith, most_from 0 n (or_parts (int_lt (pos n) (pos 0)) (int_lt (pos 0) (pos n)) e).1)
 
-pub are_tasks : (depot : Row) (customers : List Row) → HasNoTaskFault None (depot ∷ customers) → AreTasks (task_of depot) (map task_of customers)
-are_tasks depot customers h =
-    let none = none_head None depot customers h in
-    let rest = none_tail None depot customers h in
-    let first : (task_of depot).stop.number ≡ 0 = zero_from (task_of depot).stop.number (in_order None depot none) in
+pub are_tasks : (limits : List (ℤ × ℤ)) (are : AreStopLimits limits) (depot : Row) (customers : List Row) → HasNoStopFault limits None (depot ∷ customers)
+    → AreTasks (task_of depot) (map task_of customers)
+are_tasks limits are depot customers h =
+    let none = none_head limits are None depot customers h in
+    let rest = none_tail limits are None depot customers h in
+    let first : (task_of depot).stop.number ≡ 0 = zero_from (task_of depot).stop.number (in_order limits are None depot none) in
     let P : ℕ → Type 0 = λ n. AscendsFrom n (map task_of customers) in
     record {
       first = first;
-      visit = visit_of None depot none;
-      valid = valid_tasks (task_of depot) customers rest;
-      ascending = subst P first (ascending_tasks (task_of depot) customers rest);
+      visit = visit_of limits are None depot none;
+      valid = valid_tasks limits are (task_of depot) customers rest;
+      ascending = subst P first (ascending_tasks limits are (task_of depot) customers rest);
     }
+
+-- no customer's demand is negative
+load_of : (previous : Option Task) (row : Row) → HasNoKind (stop_fault customer_limits previous (words_of row.text)) → pos 0 ≤ℤ (task_of row).stop.demand
+unfolding task_of
+load_of previous row none =
+    (within_from (pos 0) (pos 1000000) (value_at (words_of row.text) 3)
+    (value customer_limits customer_stop_limits previous row none 3 (pos 0, pos 1000000) (omega arith) refl).1).0
+
+pub are_loads : (previous : Option Task) (rows : List Row) → HasNoStopFault customer_limits previous rows → AreLoads (map task_of rows)
+are_loads previous [] h = tt
+are_loads previous (row ∷ rows) h = (
+  load_of previous row (none_head customer_limits customer_stop_limits previous row rows h),
+  are_loads (Some (task_of row)) rows (none_tail customer_limits customer_stop_limits previous row rows h),
+)

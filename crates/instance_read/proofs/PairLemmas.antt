@@ -46,7 +46,7 @@ above_at n [] i d h l = absurd (omega arith)
 above_at n (t ∷ ts) zero d h l = h.0
 above_at n (t ∷ ts) (suc i) d h l = omega (arith, h.0, above_at t.stop.number ts i d h.1 (omega arith))
 
-ascending_at : (n : ℕ) (ts : List Task) (k i : ℕ) (d e : Task) → AscendsFrom n ts → k < i → i < length ts → (get_or ts k e).stop.number < (get_or ts i d).stop.number
+pub ascending_at : (n : ℕ) (ts : List Task) (k i : ℕ) (d e : Task) → AscendsFrom n ts → k < i → i < length ts → (get_or ts k e).stop.number < (get_or ts i d).stop.number
 ascending_at n [] k i d e h l m = absurd (omega arith)
 ascending_at n (t ∷ ts) k zero d e h l m = absurd (omega arith)
 ascending_at n (t ∷ ts) zero (suc i) d e h l m = above_at t.stop.number ts i d h.1 (omega arith)
@@ -312,7 +312,7 @@ last_ge : (t : Task) (ts : List Task) → AscendsFrom t.stop.number ts → t.sto
 last_ge t [] h = omega arith
 last_ge t (u ∷ ts) h = omega (arith, h.0, last_ge u ts h.1)
 
-all_below_last : (t : Task) (ts : List Task) → AscendsFrom t.stop.number ts → AllByRecursion (λ u. u.stop.number ≤ last_number t ts) ts
+pub all_below_last : (t : Task) (ts : List Task) → AscendsFrom t.stop.number ts → AllByRecursion (λ u. u.stop.number ≤ last_number t ts) ts
 all_below_last t [] h = tt
 all_below_last t (u ∷ ts) h = (last_ge u ts h.1, all_below_last u ts h.1)
 
@@ -340,7 +340,7 @@ numbers_below n tasks (t ∷ ts) all here =
     below_step n t (find_task t.delivery tasks) (eqb t.pickup 0) (filter_map (pair_of tasks) ts) here.0
     (λ d e. found_holds (λ u. u.stop.number < n) t.delivery tasks d all e) (numbers_below n tasks ts all here.1)
 
-below_next : (n : ℕ) (ts : List Task) → AllByRecursion (λ t. t.stop.number ≤ n) ts → AllByRecursion (λ t. t.stop.number < n + 1) ts
+pub below_next : (n : ℕ) (ts : List Task) → AllByRecursion (λ t. t.stop.number ≤ n) ts → AllByRecursion (λ t. t.stop.number < n + 1) ts
 below_next n [] h = tt
 below_next n (t ∷ ts) h = (omega (arith, h.0), below_next n ts h.1)
 

@@ -9,13 +9,13 @@ use Rattle.instance_read.specs.declared.tasks.FleetLine.{FleetLine}
 use Rattle.instance_read.specs.declared.tasks.Task.{Task}
 use Rattle.instance_read.specs.Faults.{ReportsFirstFault, IsFirstFault}
 use Rattle.instance_read.specs.Fields.{value_at}
-use Rattle.instance_read.specs.Lilim.{LilimFault, SpellsLilim, header_fault, problem_from, problem_of}
+use Rattle.instance_read.specs.Lilim.{LilimFault, SpellsLilim, header_fault, problem_from, problem_of, task_limits}
 use Rattle.instance_read.specs.Pairs.{task_of}
 use Rattle.instance_read.specs.Rows.{Row, rows_of}
 use Rattle.instance_read.specs.Tables.{ArePaired, AreTasks, IsHeader, ReportsMismatch}
 use Rattle.instance_read.specs.TaskFaults.{HasNoKind, HasNoTaskFault}
 use Rattle.instance_read.proofs.LilimLemmas.{mismatch_first, has_none}
-use Rattle.instance_read.proofs.LimitLemmas.{are_tasks}
+use Rattle.instance_read.proofs.LimitLemmas.{are_tasks, task_stop_limits}
 use Rattle.instance_read.proofs.PairLemmas.{no_task}
 
 -- the first task and the others, as a slice pattern returns them
@@ -25,7 +25,7 @@ first_task items = get_or items 0 no_task
 abbrev pub other_tasks : List Task → List Task
 other_tasks items = take (length items - 1) (drop 1 items)
 
-others_is : (t : Task) (ts : List Task) → other_tasks (t ∷ ts) ≡ ts
+pub others_is : (t : Task) (ts : List Task) → other_tasks (t ∷ ts) ≡ ts
 others_is t ts = take_all (length (t ∷ ts) - 1) ts (omega arith)
 
 -- the problem is the same with the header as it was read
@@ -42,7 +42,7 @@ module _ (text : List ℕ) (header : Row) (read : FleetLine) (items : List Task)
   known_tasks (depot ∷ customers) clean same =
       let P : List Task → Type 0 = λ xs. AreTasks (first_task xs) (other_tasks xs) in
       let Q : List Task → Type 0 = λ ts. AreTasks (task_of depot) ts in
-      subst P (sym same) (subst Q (sym (others_is (task_of depot) (map task_of customers))) (are_tasks depot customers clean))
+      subst P (sym same) (subst Q (sym (others_is (task_of depot) (map task_of customers))) (are_tasks task_limits task_stop_limits depot customers clean))
 
   pub spells : (rest : List Row) → rows_of text ≡ header ∷ rest → HasNoTaskFault None rest → items ≡ map task_of rest → (p : Instance)
       → ArePaired (other_tasks items) × (p ≡ problem_from read.fleet read.capacity (first_task items) (other_tasks items)) → SpellsLilim text p

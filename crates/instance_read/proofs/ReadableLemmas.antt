@@ -1,30 +1,34 @@
 -- Each text spells a problem or has a first fault, and has no two readings. The faults are searched for in
 -- their order.
-use Rattle.std.proofs.Common.{◌≡◌, ℕ, ◌≤◌, Bool, true, false, ◌⊎◌, inl, inr, ⊎_elim, List, [], ◌∷◌, ◌++◌, length, map, Option, Some, None, refl, sym, ap, ap₂}
-use Rattle.std.proofs.Common.{subst, ◌∙◌, arith, append_assoc, append-nil, length-append}
+use Rattle.std.proofs.Common.{◌≡◌, ℕ, ◌+◌, ◌≤◌, Bool, true, false, ◌⊎◌, inl, inr, ⊎_elim, List, [], ◌∷◌, ◌++◌, length, map, Option, Some, None, refl, sym, ap, ap₂}
+use Rattle.std.proofs.Common.{subst, ◌∙◌, arith, append_assoc, append-nil, length-append, ℤ}
 use Rattle.std.specs.Prelude.{find, slice_index_or}
 use Rattle.std.specs.List.{AllByRecursion}
 use Rattle.std.proofs.lemmas.Bool.{cases_lt, false≢true}
+use Rattle.text_lines.specs.Lines.{lines_of}
 use Rattle.text_lines.specs.Words.{words_of}
+use Rattle.plan_types.specs.Instance.{Instance}
 use Rattle.instance_read.specs.declared.faults.ReadFault.{ReadFault}
 use Rattle.instance_read.specs.declared.faults.ReadFaultKind.{ReadFaultKind}
 use Rattle.instance_read.specs.declared.faults.ReadFaultKind.TheVariants.{BadNumber, Range, FieldCount, TaskOrder, PairMismatch, EmptyWindow, TooManyStops}
 use Rattle.instance_read.specs.declared.faults.ReadFaultKind.TheVariants.{MissingKey, Unsupported, DepotNotFirst, NodeRepeated, Truncated, OutOfMemory}
 use Rattle.instance_read.specs.declared.tasks.Task.{Task}
 use Rattle.instance_read.specs.Faults.{Class, HasNoFault, IsFirstFault, IsNoLater, IsNoLaterPlace, OfLine, OfText, rank}
-use Rattle.instance_read.specs.Lilim.{LilimFault, SpellsLilim, header_fault, problem_of, task_fault}
+use Rattle.instance_read.specs.Lilim.{LilimFault, SpellsLilim, header_fault, problem_of, stop_fault, task_limits}
 use Rattle.instance_read.specs.Pairs.{is_mismatched, task_of}
 use Rattle.instance_read.specs.Readable.{SpellsOrFails, TextsHaveAReading, ReadingsAreUnique}
 use Rattle.instance_read.specs.Rows.{Row, rows_of}
+use Rattle.instance_read.specs.Solomon.{IsProblemOf, LinesFault, LineTest, SolomonFault, SpellsSolomon, customer_limits, heading}
 use Rattle.instance_read.specs.Vrp.{SpellsVrp, VrpFault, is_inside, lacks_key, place_fault, vrp_problem}
 use Rattle.instance_read.specs.VrpLines.{Placed, end_place, placed_of}
 use Rattle.instance_read.specs.DraftLines.{HasNoLineFault, IsFirstFaultyLine}
-use Rattle.instance_read.specs.TaskFaults.{HasNoKind, HasNoTaskFault, IsFirstKind, IsFirstTaskFault, LinesAbove}
+use Rattle.instance_read.specs.TaskFaults.{HasNoKind, HasNoStopFault, HasNoTaskFault, IsFirstKind, IsFirstStopFault, LinesAbove}
 use Rattle.instance_read.proofs.LilimLemmas.{cons_head, cons_tail, has_none, header_first, mismatch_first, no_rows_first, no_tasks_first, rest_above, task_first}
 use Rattle.instance_read.proofs.PairLemmas.{none_found}
 use Rattle.instance_read.proofs.ReadingLemmas.{clean_more}
+use Rattle.instance_read.proofs.SolomonLemmas.{clean_lines, customers_first, cut_first, due_clean, due_first, due_stops}
 use Rattle.instance_read.proofs.VrpFaultLemmas.{first_line_fault, has_no_fault, missing_first, truncated_first}
-use Rattle.instance_read.proofs.TaskFaultLemmas.{above_weaker, here_first, step_first, step_none}
+use Rattle.instance_read.proofs.TaskFaultLemmas.{above_weaker, here_first, rows_above, step_clean, step_first}
 
 -- the first fault of a line, if it has one
 abbrev all_kinds : List ReadFaultKind
@@ -79,25 +83,25 @@ module _ (fault : ReadFaultKind → Bool) where
       (λ some. inr (some.0, (some.1, each_kind (IsNoLaterKind some.0) some.2)))
       (found_in all_kinds)
 
--- the first fault of task lines, if they have one
-abbrev TaskFound : Option Task → List Row → Type 0
-TaskFound previous rows = HasNoTaskFault previous rows ⊎ ((f : ReadFault) × IsFirstTaskFault previous rows f)
+-- the first fault of lines with stops, if they have one
+abbrev StopFound : List (ℤ × ℤ) → Option Task → List Row → Type 0
+StopFound limits previous rows = HasNoStopFault limits previous rows ⊎ ((f : ReadFault) × IsFirstStopFault limits previous rows f)
 
-module _ (previous : Option Task) (row : Row) (rows : List Row) (above : LinesAbove 0 (row ∷ rows)) where
-  task_later : HasNoKind (task_fault previous (words_of row.text)) → TaskFound (Some (task_of row)) rows → TaskFound previous (row ∷ rows)
-  task_later none (inl clean) = inl (step_none previous row rows none clean)
-  task_later none (inr (f, first)) = inr (f, step_first previous row rows f none first)
+module _ (limits : List (ℤ × ℤ)) (previous : Option Task) (row : Row) (rows : List Row) (above : LinesAbove 0 (row ∷ rows)) where
+  stop_later : HasNoKind (stop_fault limits previous (words_of row.text)) → StopFound limits (Some (task_of row)) rows → StopFound limits previous (row ∷ rows)
+  stop_later none (inl clean) = inl (step_clean limits previous row rows none clean)
+  stop_later none (inr (f, first)) = inr (f, step_first limits previous row rows f none first)
 
-  task_here : HasNoKind (task_fault previous (words_of row.text)) ⊎ ((kind : ReadFaultKind) × IsFirstKind (task_fault previous (words_of row.text)) kind)
-      → TaskFound (Some (task_of row)) rows → TaskFound previous (row ∷ rows)
-  task_here (inl none) later = task_later none later
-  task_here (inr (kind, first)) later = inr (record { line = row.line; kind = kind }, here_first previous row rows kind above first)
+  stop_here : HasNoKind (stop_fault limits previous (words_of row.text)) ⊎ ((kind : ReadFaultKind) × IsFirstKind (stop_fault limits previous (words_of row.text)) kind)
+      → StopFound limits (Some (task_of row)) rows → StopFound limits previous (row ∷ rows)
+  stop_here (inl none) later = stop_later none later
+  stop_here (inr (kind, first)) later = inr (record { line = row.line; kind = kind }, here_first limits previous row rows kind above first)
 
-first_task_fault : (previous : Option Task) (rows : List Row) → LinesAbove 0 rows → TaskFound previous rows
-first_task_fault previous [] above = inl (λ line kind f. f)
-first_task_fault previous (row ∷ rows) above =
-    task_here previous row rows above (first_kind (task_fault previous (words_of row.text)))
-    (first_task_fault (Some (task_of row)) rows (above_weaker 0 row.line rows (omega arith) above.1))
+first_stop_fault : (limits : List (ℤ × ℤ)) (previous : Option Task) (rows : List Row) → LinesAbove 0 rows → StopFound limits previous rows
+first_stop_fault limits previous [] above = inl (λ line kind f. f)
+first_stop_fault limits previous (row ∷ rows) above =
+    stop_here limits previous row rows above (first_kind (stop_fault limits previous (words_of row.text)))
+    (first_stop_fault limits (Some (task_of row)) rows (above_weaker 0 row.line rows (omega arith) above.1))
 
 -- a Li-Lim text: its header, its tasks, and their pairs
 abbrev LilimRead : List ℕ → Type 0
@@ -117,12 +121,12 @@ module _ (text : List ℕ) (header : Row) (sound : HasNoKind (header_fault (word
   tasks_read (depot ∷ customers) is clean = pairs_read text header depot customers is sound clean (find (is_mismatched (map task_of customers)) (map task_of customers)) refl
 
 module _ (text : List ℕ) (header : Row) (rest : List Row) (is : rows_of text ≡ header ∷ rest) where
-  rest_read : HasNoKind (header_fault (words_of header.text)) → TaskFound None rest → LilimRead text
+  rest_read : HasNoKind (header_fault (words_of header.text)) → StopFound task_limits None rest → LilimRead text
   rest_read sound (inl clean) = tasks_read text header sound rest is clean
   rest_read sound (inr (f, first)) = inr (f, task_first text header rest is sound f first)
 
   header_read : HasNoKind (header_fault (words_of header.text)) ⊎ ((kind : ReadFaultKind) × IsFirstKind (header_fault (words_of header.text)) kind) → LilimRead text
-  header_read (inl sound) = rest_read sound (first_task_fault None rest (above_weaker 0 header.line rest (omega arith) (rest_above text header rest is)))
+  header_read (inl sound) = rest_read sound (first_stop_fault task_limits None rest (above_weaker 0 header.line rest (omega arith) (rest_above text header rest is)))
   header_read (inr (kind, first)) = inr (_, header_first text header rest is kind first)
 
 rows_read : (text : List ℕ) (rows : List Row) → rows_of text ≡ rows → LilimRead text
@@ -172,8 +176,50 @@ module _ (text : List ℕ) where
 vrp_read : (text : List ℕ) → VrpRead text
 vrp_read text = lines_read text (first_line [] (placed_of text) no_lines)
 
+-- a text in Solomon's format: line by line, first those before the depot
+module _ (end : ℕ) where
+  abbrev LinesFound : List LineTest → List Row → Type 0
+  LinesFound due rows = HasNoFault (LinesFault end due rows) ⊎ ((f : ReadFault) × IsFirstFault (LinesFault end due rows) f)
+
+  customers_found : (rows : List Row) → StopFound customer_limits None rows → LinesFound [] rows
+  customers_found [] found = inr (_, cut_first end [])
+  customers_found (row ∷ rows) (inl clean) = inl (clean_lines end row rows clean)
+  customers_found (row ∷ rows) (inr (f, first)) = inr (f, customers_first end (row ∷ rows) f first)
+
+  due_found : (test : LineTest) (due : List LineTest) (row : Row) (rows : List Row) → LinesAbove 0 (row ∷ rows) → LinesFound due rows
+      → HasNoKind (test (words_of row.text)) ⊎ ((kind : ReadFaultKind) × IsFirstKind (test (words_of row.text)) kind) → LinesFound (test ∷ due) (row ∷ rows)
+  due_found test due row rows above (inl clean) (inl none) = inl (due_clean end test due row rows none clean)
+  due_found test due row rows above (inr (f, first)) (inl none) = inr (f, due_first end test due row rows none f first)
+  due_found test due row rows above later (inr (kind, first)) = inr (_, due_stops end test due row rows above kind first)
+
+  lines_found : (due : List LineTest) (rows : List Row) → LinesAbove 0 rows → LinesFound due rows
+  lines_found [] rows above = customers_found rows (first_stop_fault customer_limits None rows above)
+  lines_found (test ∷ due) [] above = inr (_, cut_first end (test ∷ due))
+  lines_found (test ∷ due) (row ∷ rows) above =
+      due_found test due row rows above (lines_found due rows (above_weaker 0 row.line rows (omega arith) above.1)) (first_kind (test (words_of row.text)))
+
+-- the problem of the lines, if there are enough
+some_problem : (rows : List Row) → (length rows ≤ 6 → ⊥) → (problem : Instance) × IsProblemOf rows problem
+some_problem [] many = absurd (many (omega arith))
+some_problem (a ∷ []) many = absurd (many (omega arith))
+some_problem (a ∷ b ∷ []) many = absurd (many (omega arith))
+some_problem (a ∷ b ∷ c ∷ []) many = absurd (many (omega arith))
+some_problem (a ∷ b ∷ c ∷ d ∷ []) many = absurd (many (omega arith))
+some_problem (a ∷ b ∷ c ∷ d ∷ e ∷ []) many = absurd (many (omega arith))
+some_problem (a ∷ b ∷ c ∷ d ∷ e ∷ f ∷ []) many = absurd (many (omega arith))
+some_problem (a ∷ b ∷ c ∷ d ∷ e ∷ f ∷ depot ∷ customers) many = (_, refl)
+
+solomon_read : (text : List ℕ) → SpellsOrFails (SpellsSolomon text) (SolomonFault text)
+solomon_read text =
+    ⊎_elim
+    (λ clean.
+    let some = some_problem (rows_of text) (λ few. clean OfText (length (lines_of text) + 1) Truncated (few, refl)) in
+    inl (some.0, (clean, some.1)))
+    (λ first. inr first)
+    (lines_found (length (lines_of text) + 1) heading (rows_of text) (rows_above 0 (lines_of text)))
+
 pub texts_are_read : TextsHaveAReading
-texts_are_read text = (lilim_read text, vrp_read text)
+texts_are_read text = (lilim_read text, vrp_read text, solomon_read text)
 
 -- there are no two readings: each rank belongs to one kind, and each of two first faults is no later than the
 -- other
@@ -217,6 +263,10 @@ one_problem rows header depot customers other its others is same =
     ap (λ row. problem_of row depot customers) (cons_head header other (depot ∷ customers) (its ∷ others) whole)
     ∙ ap (λ row. problem_of other row customers) (cons_head depot its customers others rest) ∙ ap (problem_of other its) (cons_tail depot its customers others rest)
 
+same_singles : (rows : List Row) (p q : Instance) → IsProblemOf rows p → IsProblemOf rows q → p ≡ q
+same_singles (a ∷ b ∷ c ∷ d ∷ e ∷ f ∷ depot ∷ customers) p q is same = is ∙ sym same
+same_singles rows p q is same = absurd is
+
 pub texts_are_read_one_way : ReadingsAreUnique
 texts_are_read_one_way text = (
   record {
@@ -228,5 +278,10 @@ texts_are_read_one_way text = (
     problems = λ p q a b. a.1 ∙ sym b.1;
     faults = one_fault (VrpFault text);
     either = λ p f a first. none_first (VrpFault text) f a.0 first;
+  },
+  record {
+    problems = λ p q a b. same_singles (rows_of text) p q a.1 b.1;
+    faults = one_fault (SolomonFault text);
+    either = λ p f a first. none_first (SolomonFault text) f a.0 first;
   },
 )

@@ -1,5 +1,5 @@
--- The faults of task lines, in the order in which a reader meets them.
-use Rattle.std.proofs.Common.{◌≡◌, ℕ, suc, ◌+◌, ◌-◌, ◌<◌, ◌≤◌, inl, inr, ⊎_elim, List, [], ◌∷◌, ◌++◌, length, map, Option, Some, None, refl, sym, ap, subst, ◌∙◌, arith, append_assoc}
+-- The faults of lines with tasks or customers, in the order in which a reader meets them.
+use Rattle.std.proofs.Common.{◌≡◌, ℕ, suc, ◌+◌, ◌-◌, ◌<◌, ◌≤◌, inl, inr, ⊎_elim, List, [], ◌∷◌, ◌++◌, length, map, Option, Some, None, refl, sym, ap, subst, ◌∙◌, arith, append_assoc, ℤ}
 use Rattle.std.specs.Prelude.{slice_get}
 use Rattle.std.specs.List.{last_or}
 use Rattle.std.proofs.lemmas.Bool.{cases_Bool, false≢true}
@@ -8,10 +8,10 @@ use Rattle.instance_read.specs.declared.faults.ReadFault.{ReadFault}
 use Rattle.instance_read.specs.declared.faults.ReadFaultKind.{ReadFaultKind}
 use Rattle.instance_read.specs.declared.tasks.Task.{Task}
 use Rattle.instance_read.specs.Faults.{IsNoLaterPlace}
-use Rattle.instance_read.specs.Lilim.{task_fault}
+use Rattle.instance_read.specs.Lilim.{stop_fault, task_fault, task_limits}
 use Rattle.instance_read.specs.Pairs.{task_of}
 use Rattle.instance_read.specs.Rows.{Row, rows_from}
-use Rattle.instance_read.specs.TaskFaults.{HasNoKind, IsFirstKind, TaskLineFault, HasNoTaskFault, IsFirstTaskFault, LinesAbove}
+use Rattle.instance_read.specs.TaskFaults.{HasNoKind, HasNoStopFault, HasNoTaskFault, IsFirstKind, IsFirstStopFault, LinesAbove, StopLineFault}
 use Rattle.instance_read.proofs.RowLemmas.{rows_nil, rows_blank, rows_read}
 
 pub above_weaker : (m n : ℕ) (rows : List Row) → m ≤ n → LinesAbove n rows → LinesAbove m rows
@@ -29,32 +29,37 @@ rows_above n (l ∷ ls) =
     (cases_Bool (is_blank_line l))
 
 -- a fault of these lines is on a line after line n
-pub fault_above : (n : ℕ) (previous : Option Task) (rows : List Row) (line : ℕ) (kind : ReadFaultKind) → LinesAbove n rows → TaskLineFault previous rows line kind → n < line
-fault_above n previous [] line kind h f = absurd f
-fault_above n previous (row ∷ rows) line kind h (inl here) = omega (arith, here.0)
-fault_above n previous (row ∷ rows) line kind h (inr later) = omega (arith, fault_above row.line (Some (task_of row)) rows line kind h.1 later)
+pub fault_above : (limits : List (ℤ × ℤ)) (n : ℕ) (previous : Option Task) (rows : List Row) (line : ℕ) (kind : ReadFaultKind) → LinesAbove n rows
+    → StopLineFault limits previous rows line kind → n < line
+fault_above limits n previous [] line kind h f = absurd f
+fault_above limits n previous (row ∷ rows) line kind h (inl here) = omega (arith, h.0, here.0)
+fault_above limits n previous (row ∷ rows) line kind h (inr later) = omega (arith, h.0, fault_above limits row.line (Some (task_of row)) rows line kind h.1 later)
 
-module _ (previous : Option Task) (row : Row) (rows : List Row) where
-  pub step_none : HasNoKind (task_fault previous (words_of row.text)) → HasNoTaskFault (Some (task_of row)) rows → HasNoTaskFault previous (row ∷ rows)
-  step_none none rest line kind (inl here) = false≢true (sym (none kind) ∙ here.1)
-  step_none none rest line kind (inr later) = rest line kind later
+module _ (limits : List (ℤ × ℤ)) (previous : Option Task) (row : Row) (rows : List Row) where
+  pub step_clean : HasNoKind (stop_fault limits previous (words_of row.text)) → HasNoStopFault limits (Some (task_of row)) rows → HasNoStopFault limits previous (row ∷ rows)
+  step_clean none rest line kind (inl here) = false≢true (sym (none kind) ∙ here.1)
+  step_clean none rest line kind (inr later) = rest line kind later
 
-  first_cases : (f : ReadFault) → HasNoKind (task_fault previous (words_of row.text)) → IsFirstTaskFault (Some (task_of row)) rows f → (line : ℕ) (kind : ReadFaultKind)
-      → TaskLineFault previous (row ∷ rows) line kind → IsNoLaterPlace f.line f.kind line kind
+  first_cases : (f : ReadFault) → HasNoKind (stop_fault limits previous (words_of row.text)) → IsFirstStopFault limits (Some (task_of row)) rows f → (line : ℕ) (kind : ReadFaultKind)
+      → StopLineFault limits previous (row ∷ rows) line kind → IsNoLaterPlace f.line f.kind line kind
   first_cases f none rest line kind (inl here) = absurd (false≢true (sym (none kind) ∙ here.1))
   first_cases f none rest line kind (inr later) = rest.first line kind later
 
-  pub step_first : (f : ReadFault) → HasNoKind (task_fault previous (words_of row.text)) → IsFirstTaskFault (Some (task_of row)) rows f → IsFirstTaskFault previous (row ∷ rows) f
+  pub step_first : (f : ReadFault) → HasNoKind (stop_fault limits previous (words_of row.text)) → IsFirstStopFault limits (Some (task_of row)) rows f → IsFirstStopFault limits previous (row ∷ rows) f
   step_first f none rest = record { here = inr rest.here; first = first_cases f none rest }
 
-  here_cases : (found : ReadFaultKind) → LinesAbove 0 (row ∷ rows) → IsFirstKind (task_fault previous (words_of row.text)) found → (line : ℕ) (kind : ReadFaultKind)
-      → TaskLineFault previous (row ∷ rows) line kind → IsNoLaterPlace row.line found line kind
+  here_cases : (found : ReadFaultKind) → LinesAbove 0 (row ∷ rows) → IsFirstKind (stop_fault limits previous (words_of row.text)) found → (line : ℕ) (kind : ReadFaultKind)
+      → StopLineFault limits previous (row ∷ rows) line kind → IsNoLaterPlace row.line found line kind
   here_cases found above h line kind (inl here) = inr (here.0, h.1 kind here.1)
-  here_cases found above h line kind (inr later) = inl (fault_above row.line (Some (task_of row)) rows line kind above.1 later)
+  here_cases found above h line kind (inr later) = inl (fault_above limits row.line (Some (task_of row)) rows line kind above.1 later)
 
-  pub here_first : (found : ReadFaultKind) → LinesAbove 0 (row ∷ rows) → IsFirstKind (task_fault previous (words_of row.text)) found
-      → IsFirstTaskFault previous (row ∷ rows) (record { line = row.line; kind = found })
+  pub here_first : (found : ReadFaultKind) → LinesAbove 0 (row ∷ rows) → IsFirstKind (stop_fault limits previous (words_of row.text)) found
+      → IsFirstStopFault limits previous (row ∷ rows) (record { line = row.line; kind = found })
   here_first found above h = record { here = inl (refl, h.0); first = here_cases found above h }
+
+pub step_none : (previous : Option Task) (row : Row) (rows : List Row) → HasNoKind (task_fault previous (words_of row.text)) → HasNoTaskFault (Some (task_of row)) rows
+    → HasNoTaskFault previous (row ∷ rows)
+step_none previous row rows none rest = step_clean task_limits previous row rows none rest
 
 pub last_or-push : (o : Option Task) (ts : List Task) (t : Task) → last_or o (ts ++ t ∷ []) ≡ Some t
 last_or-push o [] t = refl
@@ -70,8 +75,8 @@ last_or-is [] = refl
 last_or-is (t ∷ ts) = let n : suc (length ts) - 1 ≡ length ts = omega arith in rw n (last_from t ts)
 
 -- one more line without a fault: `tasks` are those of the lines before it, and `rest` are the lines from it on
-module _ (all rest more : List Row) (row : Row) (tasks : List Task) (previous : Option Task) (task : Task) (steps : rest ≡ row ∷ more)
-    (last : previous ≡ last_or None tasks) (none : HasNoKind (task_fault previous (words_of row.text))) (made : task ≡ task_of row) where
+module _ (limits : List (ℤ × ℤ)) (all rest more : List Row) (row : Row) (tasks : List Task) (previous : Option Task) (task : Task) (steps : rest ≡ row ∷ more)
+    (last : previous ≡ last_or None tasks) (none : HasNoKind (stop_fault limits previous (words_of row.text))) (made : task ≡ task_of row) where
   pub tasks_more : tasks ++ map task_of rest ≡ map task_of all → (tasks ++ task ∷ []) ++ map task_of more ≡ map task_of all
   tasks_more h =
       append_assoc tasks (task ∷ []) (map task_of more) ∙ ap (λ t. tasks ++ t ∷ map task_of more) made
@@ -85,26 +90,26 @@ module _ (all rest more : List Row) (row : Row) (tasks : List Task) (previous : 
   after : last_or None (tasks ++ task ∷ []) ≡ Some (task_of row)
   after = last_or-push None tasks task ∙ ap (λ t. Some t) made
 
-  pub none_more : HasNoTaskFault (last_or None (tasks ++ task ∷ [])) more → HasNoTaskFault (last_or None tasks) rest
+  pub none_more : HasNoStopFault limits (last_or None (tasks ++ task ∷ [])) more → HasNoStopFault limits (last_or None tasks) rest
   none_more h =
-      let P : Option Task → Type 0 = λ o. HasNoTaskFault o more in
-      let Q : List Row → Type 0 = HasNoTaskFault previous in
-      let R : Option Task → Type 0 = λ o. HasNoTaskFault o rest in
-      subst R last (subst Q (sym steps) (step_none previous row more none (subst P after h)))
+      let P : Option Task → Type 0 = λ o. HasNoStopFault limits o more in
+      let Q : List Row → Type 0 = HasNoStopFault limits previous in
+      let R : Option Task → Type 0 = λ o. HasNoStopFault limits o rest in
+      subst R last (subst Q (sym steps) (step_clean limits previous row more none (subst P after h)))
 
-  pub first_more : (f : ReadFault) → IsFirstTaskFault (last_or None (tasks ++ task ∷ [])) more f → IsFirstTaskFault (last_or None tasks) rest f
+  pub first_more : (f : ReadFault) → IsFirstStopFault limits (last_or None (tasks ++ task ∷ [])) more f → IsFirstStopFault limits (last_or None tasks) rest f
   first_more f h =
-      let P : Option Task → Type 0 = λ o. IsFirstTaskFault o more f in
-      let Q : List Row → Type 0 = λ rows. IsFirstTaskFault previous rows f in
-      let R : Option Task → Type 0 = λ o. IsFirstTaskFault o rest f in
-      subst R last (subst Q (sym steps) (step_first previous row more f none (subst P after h)))
+      let P : Option Task → Type 0 = λ o. IsFirstStopFault limits o more f in
+      let Q : List Row → Type 0 = λ rows. IsFirstStopFault limits previous rows f in
+      let R : Option Task → Type 0 = λ o. IsFirstStopFault limits o rest f in
+      subst R last (subst Q (sym steps) (step_first limits previous row more f none (subst P after h)))
 
 -- the fault of the line at which reading ends is the first of all lines
-pub stops_first : (rest more : List Row) (row : Row) (tasks : List Task) (previous : Option Task) (found : ReadFaultKind) → rest ≡ row ∷ more
-    → previous ≡ last_or None tasks → LinesAbove 0 rest → IsFirstKind (task_fault previous (words_of row.text)) found
-    → IsFirstTaskFault (last_or None tasks) rest (record { line = row.line; kind = found })
-stops_first rest more row tasks previous found steps last above h =
+pub stops_first : (limits : List (ℤ × ℤ)) (rest more : List Row) (row : Row) (tasks : List Task) (previous : Option Task) (found : ReadFaultKind) → rest ≡ row ∷ more
+    → previous ≡ last_or None tasks → LinesAbove 0 rest → IsFirstKind (stop_fault limits previous (words_of row.text)) found
+    → IsFirstStopFault limits (last_or None tasks) rest (record { line = row.line; kind = found })
+stops_first limits rest more row tasks previous found steps last above h =
     let P : List Row → Type 0 = LinesAbove 0 in
-    let Q : List Row → Type 0 = λ rows. IsFirstTaskFault previous rows (record { line = row.line; kind = found }) in
-    let R : Option Task → Type 0 = λ o. IsFirstTaskFault o rest (record { line = row.line; kind = found }) in
-    subst R last (subst Q (sym steps) (here_first previous row more found (subst P steps above) h))
+    let Q : List Row → Type 0 = λ rows. IsFirstStopFault limits previous rows (record { line = row.line; kind = found }) in
+    let R : Option Task → Type 0 = λ o. IsFirstStopFault limits o rest (record { line = row.line; kind = found }) in
+    subst R last (subst Q (sym steps) (here_first limits previous row more found (subst P steps above) h))

@@ -2,9 +2,11 @@
 pub mod Faults
 pub mod Names
 pub mod Fields
+pub mod FieldValues
 pub mod Rows
 pub mod Pairs
 pub mod Lilim
+pub mod Solomon
 pub mod VrpLines
 pub mod Vrp
 pub mod VrpKeys
@@ -18,8 +20,8 @@ pub mod Evidence
 pub mod EvidenceLaws
 -- definitions that only private contracts use
 pub mod RowViews
-pub mod FieldValues
 pub mod TaskFaults
 pub mod Tables
 pub mod Drafts
 pub mod DraftLines
+pub mod HeadingLines

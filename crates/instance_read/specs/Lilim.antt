@@ -44,15 +44,20 @@ abbrev pub is_out_of_order : Option Task → ℤ → Bool
 is_out_of_order None z = is_beyond (pos 0, pos 0) z
 is_out_of_order (Some previous) z = not (int_lt (pos previous.stop.number) z)
 
+-- the faults of the words of a line with a stop whose fields have these limits; `previous` is the task of the
+-- line before it
+abbrev pub stop_fault : List (ℤ × ℤ) → Option Task → List (List ℕ) → ReadFaultKind → Bool
+stop_fault limits previous words FieldCount = not (length words == length limits)
+stop_fault limits previous words BadNumber = has_no_number words
+stop_fault limits previous words TooManyStops = passes_test (λ z. int_lt (pos MAX_STOP_NUMBER) z) (field words 0)
+stop_fault limits previous words Range = any_beyond limits words
+stop_fault limits previous words TaskOrder = passes_test (is_out_of_order previous) (field words 0)
+stop_fault limits previous words EmptyWindow = exceeds (field words 4) (field words 5)
+stop_fault limits previous words _ = false
+
 -- the faults of the words of a task's line; `previous` is the task before it
 abbrev pub task_fault : Option Task → List (List ℕ) → ReadFaultKind → Bool
-task_fault previous words FieldCount = not (length words == 9)
-task_fault previous words BadNumber = has_no_number words
-task_fault previous words TooManyStops = passes_test (λ z. int_lt (pos MAX_STOP_NUMBER) z) (field words 0)
-task_fault previous words Range = any_beyond task_limits words
-task_fault previous words TaskOrder = passes_test (is_out_of_order previous) (field words 0)
-task_fault previous words EmptyWindow = exceeds (field words 4) (field words 5)
-task_fault previous words _ = false
+task_fault previous words kind = stop_fault task_limits previous words kind
 
 -- the faults of a line after these lines: the first line is the header, the others are tasks
 abbrev pub row_fault : List Row → Row → ReadFaultKind → Bool

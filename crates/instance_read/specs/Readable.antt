@@ -5,6 +5,7 @@ use Rattle.instance_read.specs.declared.faults.ReadFault.{ReadFault}
 use Rattle.instance_read.specs.declared.faults.ReadFaultKind.{ReadFaultKind}
 use Rattle.instance_read.specs.Faults.{Class, IsFirstFault}
 use Rattle.instance_read.specs.Lilim.{LilimFault, SpellsLilim}
+use Rattle.instance_read.specs.Solomon.{SolomonFault, SpellsSolomon}
 use Rattle.instance_read.specs.Vrp.{SpellsVrp, VrpFault}
 
 -- the text spells a problem, or there is a first fault, in the sense of `Fault`
@@ -17,9 +18,13 @@ pub record IsUniqueReading (Spells : Instance → Type 0) (Fault : Class → ℕ
   pub faults : (fault other : ReadFault) → IsFirstFault Fault fault → IsFirstFault Fault other → fault ≡ other
   pub either : (problem : Instance) (fault : ReadFault) → Spells problem → IsFirstFault Fault fault → ⊥
 
--- law: every text of either format spells a problem or has a first fault
+-- law: every text of any format spells a problem or has a first fault
 abbrev pub TextsHaveAReading : Type 0
-TextsHaveAReading = (text : List ℕ) → SpellsOrFails (SpellsLilim text) (LilimFault text) × SpellsOrFails (SpellsVrp text) (VrpFault text)
+TextsHaveAReading = (text : List ℕ)
+    → SpellsOrFails (SpellsLilim text) (LilimFault text) × SpellsOrFails (SpellsVrp text) (VrpFault text)
+    × SpellsOrFails (SpellsSolomon text) (SolomonFault text)
 
 abbrev pub ReadingsAreUnique : Type 0
-ReadingsAreUnique = (text : List ℕ) → IsUniqueReading (SpellsLilim text) (LilimFault text) × IsUniqueReading (SpellsVrp text) (VrpFault text)
+ReadingsAreUnique = (text : List ℕ)
+    → IsUniqueReading (SpellsLilim text) (LilimFault text) × IsUniqueReading (SpellsVrp text) (VrpFault text)
+    × IsUniqueReading (SpellsSolomon text) (SolomonFault text)

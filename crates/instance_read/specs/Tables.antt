@@ -1,5 +1,5 @@
 -- The facts about the tasks of a text whose lines have no fault.
-use Rattle.std.specs.Prelude.{◌≡◌, ℕ, ◌<◌, ◌⊎◌, false, List, [], ◌∷◌, Option, Some, None, find, slice_index_or, ◌==◌, ◌≤ℤ◌}
+use Rattle.std.specs.Prelude.{◌≡◌, ℕ, ◌<◌, ◌⊎◌, false, List, [], ◌∷◌, Option, Some, None, find, slice_index_or, ◌==◌, ◌≤ℤ◌, pos}
 use Rattle.std.specs.Int.RustNames.{unsigned_abs}
 use Rattle.std.specs.List.{AllByRecursion, position_from}
 use Rattle.plan_types.specs.Limits.{IsCapacity, IsFleet, IsStop, IsVisit}
@@ -43,6 +43,10 @@ IsHeader words header = (header.fleet ≡ unsigned_abs (value_at words 0)) × (h
 pub record HeaderKeepsLimits (header : FleetLine) : Type 0 where
   pub fleet : IsFleet header.fleet
   pub capacity : IsCapacity header.capacity
+
+-- no demand is negative
+abbrev pub AreLoads : List Task → Type 0
+AreLoads customers = AllByRecursion (λ t. pos 0 ≤ℤ t.stop.demand) customers
 
 -- no task is mismatched
 abbrev pub ArePaired : List Task → Type 0

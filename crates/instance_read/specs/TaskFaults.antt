@@ -1,11 +1,12 @@
--- The faults of task lines, line by line.
-use Rattle.std.specs.Prelude.{◌≡◌, ℕ, ◌<◌, ◌≤◌, Bool, true, false, ◌⊎◌, List, [], ◌∷◌, Option, Some, Result, MatchResult}
+-- The faults of lines with tasks or customers, line by line.
+use Rattle.std.specs.Prelude.{◌≡◌, ℕ, ◌<◌, ◌≤◌, Bool, true, false, ◌⊎◌, List, [], ◌∷◌, length, Option, Some, Result, MatchResult, ℤ, pos, neg_ℤ, slice_index_or}
 use Rattle.text_lines.specs.Words.{words_of}
+use Rattle.plan_types.specs.declared.limits.TheConstants.{MAX_COORDINATE, MAX_DEMAND, MAX_SERVICE, MAX_STOP_NUMBER, MAX_TIME}
 use Rattle.instance_read.specs.declared.faults.ReadFault.{ReadFault}
 use Rattle.instance_read.specs.declared.faults.ReadFaultKind.{ReadFaultKind}
 use Rattle.instance_read.specs.declared.tasks.Task.{Task}
 use Rattle.instance_read.specs.Faults.{rank, IsNoLaterPlace, out_of_memory}
-use Rattle.instance_read.specs.Lilim.{task_fault}
+use Rattle.instance_read.specs.Lilim.{stop_fault, task_limits}
 use Rattle.instance_read.specs.Pairs.{task_of}
 use Rattle.instance_read.specs.Rows.{Row}
 
@@ -24,22 +25,45 @@ ReadsValue fault IsSo result = MatchResult result (λ x. HasNoKind fault × IsSo
 abbrev pub Passes : {X : Type 0} → (ReadFaultKind → Bool) → Result X ReadFaultKind → Type 0
 Passes fault result = MatchResult result (λ _. HasNoKind fault) (IsFirstKind fault)
 
--- a fault of one of these task lines; `previous` is the task before them
+-- the limits of the fields of a line with a stop: number, x, y, demand, earliest, latest, service
+pub record AreStopLimits (limits : List (ℤ × ℤ)) : Type 0 where
+  pub seven : 7 ≤ length limits
+  pub number : slice_index_or limits 0 (pos 0, pos 0) ≡ (pos 0, pos MAX_STOP_NUMBER)
+  pub x : slice_index_or limits 1 (pos 0, pos 0) ≡ (neg_ℤ MAX_COORDINATE, MAX_COORDINATE)
+  pub y : slice_index_or limits 2 (pos 0, pos 0) ≡ (neg_ℤ MAX_COORDINATE, MAX_COORDINATE)
+  pub demand : (slice_index_or limits 3 (pos 0, pos 0)).1 ≡ MAX_DEMAND
+  pub earliest : slice_index_or limits 4 (pos 0, pos 0) ≡ (pos 0, pos MAX_TIME)
+  pub latest : slice_index_or limits 5 (pos 0, pos 0) ≡ (pos 0, pos MAX_TIME)
+  pub service : slice_index_or limits 6 (pos 0, pos 0) ≡ (pos 0, pos MAX_SERVICE)
+
+-- a fault of one of these lines, each with a stop whose fields have these limits; `previous` is the task of the
+-- line before them
+abbrev pub StopLineFault : List (ℤ × ℤ) → Option Task → List Row → ℕ → ReadFaultKind → Type 0
+StopLineFault limits previous [] line kind = ⊥
+StopLineFault limits previous (row ∷ rows) line kind =
+    ((row.line ≡ line) × (stop_fault limits previous (words_of row.text) kind ≡ true))
+    ⊎ StopLineFault limits (Some (task_of row)) rows line kind
+
+abbrev pub HasNoStopFault : List (ℤ × ℤ) → Option Task → List Row → Type 0
+HasNoStopFault limits previous rows = (line : ℕ) (kind : ReadFaultKind) → StopLineFault limits previous rows line kind → ⊥
+
+pub record IsFirstStopFault (limits : List (ℤ × ℤ)) (previous : Option Task) (rows : List Row) (f : ReadFault) : Type 0 where
+  pub here : StopLineFault limits previous rows f.line f.kind
+  pub first : (line : ℕ) (kind : ReadFaultKind) → StopLineFault limits previous rows line kind → IsNoLaterPlace f.line f.kind line kind
+
+-- out of memory, or the first fault of these lines
+abbrev pub ReportsStopFault : List (ℤ × ℤ) → Option Task → List Row → ReadFault → Type 0
+ReportsStopFault limits previous rows f = (f ≡ out_of_memory) ⊎ IsFirstStopFault limits previous rows f
+
+-- the same for the lines of Li-Lim tasks
 abbrev pub TaskLineFault : Option Task → List Row → ℕ → ReadFaultKind → Type 0
-TaskLineFault previous [] line kind = ⊥
-TaskLineFault previous (row ∷ rows) line kind =
-    ((row.line ≡ line) × (task_fault previous (words_of row.text) kind ≡ true)) ⊎ TaskLineFault (Some (task_of row)) rows line kind
+TaskLineFault previous rows line kind = StopLineFault task_limits previous rows line kind
 
 abbrev pub HasNoTaskFault : Option Task → List Row → Type 0
-HasNoTaskFault previous rows = (line : ℕ) (kind : ReadFaultKind) → TaskLineFault previous rows line kind → ⊥
+HasNoTaskFault previous rows = HasNoStopFault task_limits previous rows
 
-pub record IsFirstTaskFault (previous : Option Task) (rows : List Row) (f : ReadFault) : Type 0 where
-  pub here : TaskLineFault previous rows f.line f.kind
-  pub first : (line : ℕ) (kind : ReadFaultKind) → TaskLineFault previous rows line kind → IsNoLaterPlace f.line f.kind line kind
-
--- out of memory, or the first fault of these task lines
-abbrev pub ReportsTaskFault : Option Task → List Row → ReadFault → Type 0
-ReportsTaskFault previous rows f = (f ≡ out_of_memory) ⊎ IsFirstTaskFault previous rows f
+abbrev pub IsFirstTaskFault : Option Task → List Row → ReadFault → Type 0
+IsFirstTaskFault previous rows f = IsFirstStopFault task_limits previous rows f
 
 -- the line numbers are ascending, and greater than n
 abbrev pub LinesAbove : ℕ → List Row → Type 0

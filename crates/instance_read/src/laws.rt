@@ -32,8 +32,8 @@ pub fn eof_is_the_end()
     ensures { EndIsTheEnd }
 {}
 
-/// States that every text spells one problem or has one first fault, in either format. So the result of reading
-/// is a function of the text.
+/// States that every text spells one problem or has one first fault, in any format. So the result of reading is
+/// a function of the text.
 pub fn every_text_has_one_reading()
     ensures some { TextsHaveAReading }
     ensures one { ReadingsAreUnique }

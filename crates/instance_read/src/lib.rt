@@ -1,14 +1,15 @@
-//! Reads instance files: Li and Lim's pickup and delivery instances, and the `.vrp` files of CVRPLIB.
+//! Reads instance files: Li and Lim's pickup and delivery instances, Solomon's instances of vehicle routing with
+//! time windows, and the `.vrp` files of CVRPLIB.
 //!
-//! The entry points are `read_lilim`, `read_vrp`, and `read_instance` for either format. Each returns the
-//! `Problem` that a text spells, or the first fault of the text. A text spells a problem if it has no fault and
-//! its lines describe that problem. `evidence_of` returns the details of a fault that its line shows, such as
-//! the field and its limits; `plan_explain` puts them into words. `split_key` splits a line of a `.vrp` file
-//! into key and value.
+//! The entry points are `read_lilim`, `read_solomon`, `read_vrp`, and `read_instance` for a Li-Lim or a `.vrp`
+//! text. Each returns the `Problem` that a text spells, or the first fault of the text. A text spells a problem
+//! if it has no fault and its lines describe that problem. `evidence_of` returns the details of a fault that its
+//! line shows, such as the field and its limits, except for Solomon's format; `plan_explain` puts them into
+//! words. `split_key` splits a line of a `.vrp` file into key and value.
 //!
-//! Sources: Li and Lim's benchmark instances for PDPTW; the keys and sections of TSPLIB95, as CVRPLIB's
-//! instances use them (TYPE CVRP, EDGE_WEIGHT_TYPE EUC_2D). The faults, their order and the limits
-//! (`plan_types::limits`) are this project's own.
+//! Sources: Li and Lim's benchmark instances for PDPTW; those of Solomon, and of Gehring and Homberger, for
+//! VRPTW; the keys and sections of TSPLIB95, as CVRPLIB's instances use them (TYPE CVRP, EDGE_WEIGHT_TYPE
+//! EUC_2D). The faults, their order and the limits (`plan_types::limits`) are this project's own.
 //!
 //! Each line is read once, in order, and reading ends at the first line with a fault. Checks of the whole text
 //! (that tasks form pairs, that no key is missing) follow after the last line.
@@ -22,24 +23,26 @@
 //! - `rows`: the lines that are read, with their numbers
 //! - `field_limits`: the limits of the numbers in a line
 //! - `fields`: the numbers of a line, within limits
-//! - `tasks`: the header and the tasks of a Li-Lim text
+//! - `tasks`: the header and the tasks of a Li-Lim text; a customer in Solomon's format is read as a task, too
 //! - `entries`, `pairs`: tables by number, and the pairs that tasks form
 //! - `put`: adding a request to a problem
 //! - `lilim`: the reader of Li-Lim texts
+//! - `singles`: the problem in which each customer is a request
+//! - `solomon`: the reader of Solomon's texts
 //! - `vrp_lines`: the keys and sections of a `.vrp` text
 //! - `vrp_fields`: the values of keys, and the lines of sections
 //! - `vrp_draft`: the data from the lines read so far
 //! - `vrp_problem`: the problem that the lines spell
 //! - `vrp`: the reader of `.vrp` texts
-//! - `instance`: the reader of either format
+//! - `instance`: the reader of Li-Lim and `.vrp` texts
 //! - `number_evidence`, `lilim_evidence`, `vrp_evidence`, `evidence`: the details of a fault that its line
 //!   shows
 //! - `laws`: what the lines of a `.vrp` text are, that every text is read, and what evidence shows
 //!
 //! Proved: each reader returns exactly the problem that the text spells, or else the first fault by class, line
-//! and kind, unless memory runs out. Every text spells one problem or has one first fault, in either format.
-//! The laws state the format of `.vrp` lines and sections in other words, and that the evidence for a bad
-//! number is the first such word of the line.
+//! and kind, unless memory runs out. Every text spells one problem or has one first fault, in any format. The
+//! laws state the format of `.vrp` lines and sections in other words, and that the evidence for a bad number is
+//! the first such word of the line.
 #![tactic(auto)]
 
 mod entries;
@@ -55,6 +58,8 @@ mod number_evidence;
 mod pairs;
 mod put;
 mod rows;
+mod singles;
+mod solomon;
 mod tasks;
 mod vrp;
 mod vrp_draft;
@@ -73,5 +78,6 @@ pub use laws::{
     key_lines_follow_grammar, other_lines_stay_outside, sections_have_a_line_for_each_node,
 };
 pub use lilim::read_lilim;
+pub use solomon::read_solomon;
 pub use vrp::read_vrp;
 pub use vrp_lines::{Key, split_key};

@@ -1,11 +1,12 @@
 //! The reader of Li and Lim's pickup and delivery instances.
-ghost use Rattle.std.specs.Prelude.{◌≡◌, ◌+◌, IfOk, IfErr, MatchResult, None, length, map};
-ghost use Rattle.text_lines.specs.Lines.{lines_of};
+ghost use Rattle.std.specs.Prelude.{◌≡◌, IfOk, IfErr, MatchResult, None, map};
 ghost use Rattle.instance_read.specs.Faults.{ReportsFirstFault};
+ghost use Rattle.instance_read.specs.HeadingLines.{truncated_after};
 ghost use Rattle.instance_read.specs.Lilim.{LilimFault, SpellsLilim};
 ghost use Rattle.instance_read.specs.Pairs.{task_of};
-ghost use Rattle.instance_read.specs.TaskFaults.{HasNoTaskFault, LinesAbove, ReportsTaskFault};
+ghost use Rattle.instance_read.specs.TaskFaults.{AreStopLimits, HasNoStopFault, LinesAbove, ReportsStopFault};
 
+use crate::field_limits::{Limits, TASK};
 use crate::pairs::pair_up;
 use crate::rows::NumberedLines;
 use crate::tasks::{FleetLine, Task};
@@ -42,24 +43,29 @@ pub fn read_lilim(alloc: Global, text: &[u8]) -> Result<Problem, ReadFault>
             });
         }
     };
-    let tasks = read_tasks(alloc, lines)?;
+    let tasks = read_tasks(alloc, &TASK, lines)?;
     match tasks.as_slice() {
         [] => Err(truncated(text)),
         [depot, customers @ ..] => pair_up(alloc, header, depot, customers),
     }
 }
 
-// Reads the tasks from the lines after the first.
-fn read_tasks(alloc: Global, lines: NumberedLines<'_>) -> Result<Vec<Task>, ReadFault>
-    requires { LinesAbove 0 lines }
-    ensures ok { IfOk result (λ tasks. HasNoTaskFault None lines.entry
+/// Reads the tasks of these lines. `limits` are those of their fields.
+pub fn read_tasks<const N: usize>(
+    alloc: Global,
+    limits: &[Limits; N],
+    lines: NumberedLines<'_>,
+) -> Result<Vec<Task>, ReadFault>
+    requires limits { AreStopLimits limits.now }
+    requires lines { LinesAbove 0 lines }
+    ensures ok { IfOk result (λ tasks. HasNoStopFault limits.now None lines.entry
         × (tasks.items ≡ map task_of lines.entry)) }
-    ensures err { IfErr result (ReportsTaskFault None lines.entry) }
+    ensures err { IfErr result (ReportsStopFault limits.now None lines.entry) }
 {
     let mut tasks: Vec<Task> = Vec::new(alloc);
     for line in lines {
         let previous = tasks.last().copied();
-        match Task::read(previous, line.number, line.text) {
+        match Task::read(limits, previous, line.number, line.text) {
             Ok(task) => tasks.push(task)?,
             Err(kind) => {
                 return Err(ReadFault {
@@ -72,12 +78,9 @@ fn read_tasks(alloc: Global, lines: NumberedLines<'_>) -> Result<Vec<Task>, Read
     Ok(tasks)
 }
 
-// Returns the fault of a text that is cut off. Its line is the one after the last.
-fn truncated(text: &[u8]) -> ReadFault
-    ensures { result ≡ record {
-      line = length (lines_of text.now) + 1;
-      kind = ReadFaultKind.Truncated;
-    } }
+/// Returns the fault of a text that is cut off. Its line is the one after the last.
+pub fn truncated(text: &[u8]) -> ReadFault
+    ensures { result ≡ truncated_after text.now }
 {
     ReadFault {
         line: Lines::new(text).count() as u64 + 1,

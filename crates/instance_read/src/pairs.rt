@@ -125,7 +125,8 @@ fn is_wrong_pickup(delivery: &Task, pickup: &Task) -> bool
     pickup.delivery != delivery.stop.number || is_uneven(delivery, pickup)
 }
 
-fn problem_without_requests(alloc: Global, header: FleetLine, depot: &Task) -> Problem
+/// Returns the problem of a header and a depot, still without requests.
+pub fn problem_without_requests(alloc: Global, header: FleetLine, depot: &Task) -> Problem
     requires header { HeaderKeepsLimits header }
     requires first { depot.now.stop.number ≡ 0 }
     requires visit { IsVisit depot.now.stop }
@@ -180,7 +181,8 @@ fn pair_of(tasks: &[Task], table: &[Option<u32>], task: &Task) -> Option<Request
     Some(Request::Pair(task.stop, delivery.stop))
 }
 
-fn last_task<'a>(depot: &'a Task, customers: &'a [Task]) -> &'a Task
+/// Returns the last customer, or the depot if there is none.
+pub fn last_task<'a>(depot: &'a Task, customers: &'a [Task]) -> &'a Task
     ensures { result.now.stop.number ≡ last_number depot.now customers.now }
 {
     customers.last().unwrap_or(depot)

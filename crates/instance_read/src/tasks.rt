@@ -1,14 +1,16 @@
-//! The header and the tasks of a Li-Lim text, line by line.
+//! The header and the tasks of a Li-Lim text, line by line. A customer in Solomon's format is read as a task
+//! that names no other.
 ghost use Rattle.std.specs.Prelude.{◌≡◌, pos, int_lt, if◌then◌else◌, slice_index_or};
 ghost use Rattle.text_lines.specs.Words.{words_of};
 ghost use Rattle.instance_read.specs.Fields.{field, passes_test, value_at};
-ghost use Rattle.instance_read.specs.Lilim.{header_fault, is_out_of_order, task_fault};
+ghost use Rattle.instance_read.specs.Lilim.{header_fault, header_limits, is_out_of_order, stop_fault};
 ghost use Rattle.instance_read.specs.Pairs.{task_from};
+ghost use Rattle.instance_read.specs.FieldValues.{numbers_fault};
 ghost use Rattle.instance_read.specs.Tables.{IsHeader};
-ghost use Rattle.instance_read.specs.TaskFaults.{ReadsValue};
+ghost use Rattle.instance_read.specs.TaskFaults.{AreStopLimits, ReadsValue};
 
 use crate::ReadFaultKind;
-use crate::field_limits::{HEADER, TASK};
+use crate::field_limits::{HEADER, Limits};
 use crate::fields::{has_no_number, next_values, range_kind, read_numbers};
 use plan_types::Stop;
 use plan_types::limits::MAX_STOP_NUMBER;
@@ -53,21 +55,41 @@ impl FleetLine {
             capacity: values[1].unsigned_abs(),
         })
     }
+
+    /// Reads the words of a line that has fleet and capacity only.
+    pub fn read_two(line: &[u8]) -> Result<FleetLine, ReadFaultKind>
+        ensures { let words = words_of line.now in
+            ReadsValue (numbers_fault 2 header_limits words) (IsHeader words) result }
+    {
+        let values = read_numbers(line, &HEADER)?;
+        Ok(FleetLine {
+            fleet: values[0].unsigned_abs(),
+            capacity: values[1].unsigned_abs(),
+        })
+    }
 }
 
 impl Task {
-    /// Reads the words of a task's line. `previous` is the task before it.
-    pub fn read(previous: Option<Task>, number: u64, line: &[u8]) -> Result<Task, ReadFaultKind>
+    /// Reads the words of a line with a stop: a Li-Lim task, or a customer in Solomon's format. `limits` are
+    /// those of its fields, and `previous` is the task of the line before it. Without the fields `pickup` and
+    /// `delivery`, the task names no other.
+    pub fn read<const N: usize>(
+        limits: &[Limits; N],
+        previous: Option<Task>,
+        number: u64,
+        line: &[u8],
+    ) -> Result<Task, ReadFaultKind>
+        requires limits { AreStopLimits limits.now }
         ensures { let words = words_of line.now in
-            ReadsValue (task_fault previous words)
+            ReadsValue (stop_fault limits.now previous words)
             (λ task. task ≡ task_from number (value_at words)) result }
     {
-        let values = match read_numbers(line, &TASK) {
+        let values = match read_numbers(line, limits) {
             Ok(values) => values,
             Err(ReadFaultKind::Range) => return Err(range_kind(line, MAX_STOP_NUMBER)),
             Err(kind) => return Err(kind),
         };
-        let task = Task::from_values(number, values);
+        let task = Task::from_values(number, &values);
         if is_out_of_order(previous, task.stop.number) {
             return Err(ReadFaultKind::TaskOrder);
         }
@@ -77,35 +99,33 @@ impl Task {
         Ok(task)
     }
 
-    fn from_values(line: u64, values: [i32; 9]) -> Task
-        ensures { result ≡ task_from line (λ k. slice_index_or values k (pos 0)) }
+    #[inline(always)]
+    fn from_values(line: u64, values: &[i32]) -> Task
+        ensures { result ≡ task_from line (λ k. slice_index_or values.now k (pos 0)) }
     {
-        let [
-            number,
-            x,
-            y,
-            demand,
-            earliest,
-            latest,
-            service,
-            pickup,
-            delivery,
-        ] = values;
         Task {
             line,
             stop: Stop {
-                number: number.unsigned_abs(),
-                x,
-                y,
-                demand,
-                earliest: earliest.unsigned_abs(),
-                latest: latest.unsigned_abs(),
-                service: service.unsigned_abs(),
+                number: value_or_zero(values, 0).unsigned_abs(),
+                x: value_or_zero(values, 1),
+                y: value_or_zero(values, 2),
+                demand: value_or_zero(values, 3),
+                earliest: value_or_zero(values, 4).unsigned_abs(),
+                latest: value_or_zero(values, 5).unsigned_abs(),
+                service: value_or_zero(values, 6).unsigned_abs(),
             },
-            pickup: pickup.unsigned_abs(),
-            delivery: delivery.unsigned_abs(),
+            pickup: value_or_zero(values, 7).unsigned_abs(),
+            delivery: value_or_zero(values, 8).unsigned_abs(),
         }
     }
+}
+
+// Returns the value at this place, or 0 if there is none.
+#[inline(always)]
+fn value_or_zero(values: &[i32], place: usize) -> i32
+    ensures { result ≡ slice_index_or values.now place (pos 0) }
+{
+    values.get(place).copied().unwrap_or(0)
 }
 
 fn is_out_of_order(previous: Option<Task>, number: u32) -> bool

@@ -1,4 +1,5 @@
-//! The test modules, in reading order: `builders` (shared by the examples), `lines`, `instances`, `solutions`,
+//! The test modules, in reading order: `builders` (shared by the examples), `lines`, `instances`, `solomon`,
+//! `solutions`,
 //! `explanations`, `buffers`, `timetables`, `pictures`, `writing`.
 
 mod buffers;
@@ -7,6 +8,7 @@ mod explanations;
 mod instances;
 mod lines;
 mod pictures;
+mod solomon;
 mod solutions;
 mod timetables;
 mod writing;

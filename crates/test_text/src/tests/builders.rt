@@ -25,6 +25,8 @@ pub enum Form {
     Node,
     /// Node n has demand n.
     Demand,
+    /// Customer n in Solomon's format is at (n, -n) and has demand 7.
+    Customer,
     /// Route n visits stop n.
     Route,
     /// One more stop of a route.
@@ -49,6 +51,7 @@ fn line_of(alloc: Global, form: Form, before: u32) -> Result<String, AllocError>
         Form::Pair => pair_line(alloc, before),
         Form::Node => format!(in alloc; "{number} {number} -{number}\n"),
         Form::Demand => format!(in alloc; "{number} {number}\n"),
+        Form::Customer => { format!(in alloc; "{number} {number} -{number} 7 0 100000000 90\n") }
         Form::Route => format!(in alloc; "Route #{number}: {number}\n"),
         Form::Stop => format!(in alloc; " {number}"),
         Form::Nine => format!(in alloc; "9"),

@@ -1,4 +1,4 @@
-//! Instances in both formats.
+//! Instances in the formats of Li and Lim and of CVRPLIB.
 
 use crate::tests::builders::{Form, ONE_PAIR, Part, read_instance, text_of};
 use instance_read::ReadFaultKind::{
@@ -39,10 +39,10 @@ NODE_COORD_SECTION : x\r
 \t4 -0 5";
 
 /// The fleet, the capacity, the next number, and the number of requests.
-type Counts = [usize; 4];
+pub type Counts = [usize; 4];
 
 /// A stop's number, its coordinates, its demand, the end of its window, and the name of its request.
-type Spot = (u32, [i64; 5]);
+pub type Spot = (u32, [i64; 5]);
 
 fn counts_of(problem: &Problem) -> Counts {
     [
@@ -74,8 +74,8 @@ fn has_spots(problem: &Problem, spots: &[Spot]) -> bool {
     true
 }
 
-// Returns whether a problem has these values and stops, and a depot without demand and service.
-fn has_counts(problem: &Problem, kind: Kind, figures: Counts, spots: &[Spot]) -> bool {
+/// Returns whether a problem has these values and stops, and a depot without demand and service.
+pub fn has_counts(problem: &Problem, kind: Kind, figures: Counts, spots: &[Spot]) -> bool {
     problem.kind == kind
         && problem.depot.demand == 0
         && problem.depot.service == 0

@@ -7,7 +7,7 @@ use Rattle.instance_read.specs.Faults.{IsFirstFault}
 use Rattle.instance_read.specs.Lilim.{LilimFault}
 use Rattle.instance_read.specs.RowViews.{row_view}
 use Rattle.instance_read.proofs.LilimLemmas.{no_rows_first, header_first, rest_above, task_first, no_tasks_first}
-use Rattle.instance_read.proofs.LimitLemmas.{header_limits_of}
+use Rattle.instance_read.proofs.LimitLemmas.{header_limits_of, task_stop_limits}
 use Rattle.instance_read.proofs.ReadLemmas.{known_tasks, spells, tells, no_rest}
 use Rattle.instance_read.proofs.TaskFaultLemmas.{above_weaker}
 use Rattle.instance_read.proofs.lilim.read_lilim.Goals as goal
@@ -25,7 +25,8 @@ returns-in-Err-clause-fault c =
 pub read_tasks-requires : goal.read_tasks-requires
 read_tasks-requires c =
     let first = row_view c.in-Some.first in
-    above_weaker 0 first.line c.next.new.self (omega arith) (rest_above c.args.text.now first c.next.new.self (sym c.new-lines.ensures ∙ c.in-Some.ensures.steps))
+    let rest = rest_above c.args.text.now first c.next.new.self (sym c.new-lines.ensures ∙ c.in-Some.ensures.steps) in
+    (omega arith, (task_stop_limits, above_weaker 0 first.line c.next.new.self (omega arith) rest))
 
 pub returns-in_err-tasks-clause-fault : goal.returns-in_err-tasks-clause-fault
 returns-in_err-tasks-clause-fault c =

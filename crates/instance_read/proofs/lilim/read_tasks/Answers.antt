@@ -8,7 +8,7 @@ use Rattle.instance_read.proofs.lilim.read_tasks.Goals as goal
 
 pub loop-line-preserved : goal.loop-line-preserved
 unfolding task_of
-loop-line-preserved c =
+loop-line-preserved g c =
     let kept = c.loop-line.invariant in
     let rest = c.loop-line.line-iterator in
     let more = c.next.new.self in
@@ -19,16 +19,16 @@ loop-line-preserved c =
     let steps = c.in-Some.ensures.steps in
     let last = c.copied-previous.ensures ∙ c.last.ensures.value ∙ ap (λ ts. slice_get ts (length ts - 1)) c.deref.ensures.value ∙ last_or-is tasks in
     rw c.in_ok-push-in-Ok.ensures.items (record {
-      tasks = tasks_more c.args.lines rest more row tasks previous task steps last c.in-Ok.ensures.0 c.in-Ok.ensures.1 kept.tasks;
-      above = above_more c.args.lines rest more row tasks previous task steps last c.in-Ok.ensures.0 c.in-Ok.ensures.1 kept.above;
-      none = λ h. kept.none (none_more c.args.lines rest more row tasks previous task steps last c.in-Ok.ensures.0 c.in-Ok.ensures.1 h);
-      first = λ f h. kept.first f (first_more c.args.lines rest more row tasks previous task steps last c.in-Ok.ensures.0 c.in-Ok.ensures.1 f h);
+      tasks = tasks_more c.args.limits.now c.args.lines rest more row tasks previous task steps last c.in-Ok.ensures.0 c.in-Ok.ensures.1 kept.tasks;
+      above = above_more c.args.limits.now c.args.lines rest more row tasks previous task steps last c.in-Ok.ensures.0 c.in-Ok.ensures.1 kept.above;
+      none = λ h. kept.none (none_more c.args.limits.now c.args.lines rest more row tasks previous task steps last c.in-Ok.ensures.0 c.in-Ok.ensures.1 h);
+      first = λ f h. kept.first f (first_more c.args.limits.now c.args.lines rest more row tasks previous task steps last c.in-Ok.ensures.0 c.in-Ok.ensures.1 f h);
     })
 
 pub returns-in-Err-clause-err : goal.returns-in-Err-clause-err
-returns-in-Err-clause-err c =
+returns-in-Err-clause-err g c =
     let kept = c.loop-line.invariant in
     let tasks = c.loop-line.tasks.items in
     let last = c.copied-previous.ensures ∙ c.last.ensures.value ∙ ap (λ ts. slice_get ts (length ts - 1)) c.deref.ensures.value ∙ last_or-is tasks in
     inr (kept.first (record { line = c.in-Some.line.number; kind = c.in-Err.kind })
-    (stops_first c.loop-line.line-iterator c.next.new.self (row_view c.in-Some.line) tasks c.copied-previous.result c.in-Err.kind c.in-Some.ensures.steps last kept.above c.in-Err.ensures))
+    (stops_first c.args.limits.now c.loop-line.line-iterator c.next.new.self (row_view c.in-Some.line) tasks c.copied-previous.result c.in-Err.kind c.in-Some.ensures.steps last kept.above c.in-Err.ensures))

@@ -3,14 +3,14 @@ use Rattle.std.proofs.Common.{◌≡◌, ◌++◌, map, None}
 use Rattle.std.specs.List.{last_or}
 use Rattle.instance_read.specs.declared.faults.ReadFault.{ReadFault}
 use Rattle.instance_read.specs.Pairs.{task_of}
-use Rattle.instance_read.specs.TaskFaults.{HasNoTaskFault, IsFirstTaskFault, LinesAbove}
+use Rattle.instance_read.specs.TaskFaults.{HasNoStopFault, IsFirstStopFault, LinesAbove}
 use Rattle.instance_read.proofs.lilim.read_tasks.Given as goal
 
 -- the lines so far are read and have no fault; what is true for the rest is true for all lines
 abbrev pub invariant-loop-line : goal.invariant-loop-line
-invariant-loop-line l = record {
+invariant-loop-line g l = record {
   tasks : l.tasks.items ++ map task_of l.line-iterator ≡ map task_of l.fn.lines;
   above : LinesAbove 0 l.line-iterator;
-  none : HasNoTaskFault (last_or None l.tasks.items) l.line-iterator → HasNoTaskFault None l.fn.lines;
-  first : (f : ReadFault) → IsFirstTaskFault (last_or None l.tasks.items) l.line-iterator f → IsFirstTaskFault None l.fn.lines f;
+  none : HasNoStopFault l.limits (last_or None l.tasks.items) l.line-iterator → HasNoStopFault l.limits None l.fn.lines;
+  first : (f : ReadFault) → IsFirstStopFault l.limits (last_or None l.tasks.items) l.line-iterator f → IsFirstStopFault l.limits None l.fn.lines f;
 }

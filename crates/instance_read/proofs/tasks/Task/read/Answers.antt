@@ -1,29 +1,34 @@
--- A task's line is refused with its first fault: in its numbers, in their order, or in its time window.
-use Rattle.std.proofs.Common.{◌∙◌, sym, arith, pos, refl}
+-- A line with a stop is refused with its first fault: in its numbers, in their order, or in its time window.
+use Rattle.std.proofs.Common.{◌≡◌, ◌∙◌, length, sym, arith, pos, refl, rules}
 use Rattle.std.specs.Prelude.{int_lt}
 use Rattle.text_lines.specs.Words.{words_of}
 use Rattle.instance_read.specs.Fields.{field, passes_test}
-use Rattle.instance_read.specs.Lilim.{task_fault, task_limits}
+use Rattle.instance_read.specs.Lilim.{stop_fault}
 use Rattle.instance_read.proofs.NumberLemmas.{stops_first}
-use Rattle.instance_read.proofs.TaskLemmas.{task_is, order_first, window_first, no_fault}
+use Rattle.instance_read.proofs.TaskLemmas.{counted_by, task_is, order_first, window_first, no_fault}
 use Rattle.instance_read.proofs.tasks.Task.read.Goals as goal
 
 pub returns-in-Err-Range : goal.returns-in-Err-Range
-returns-in-Err-Range c =
+returns-in-Err-Range g c =
     let words = words_of c.args.line.now in
-    stops_first 9 task_limits words (task_fault c.args.previous words) refl refl
+    let limits = c.args.limits.now in
+    stops_first g.row.N limits words (stop_fault limits c.args.previous words) (counted_by limits words g.row.N c.told-limits) refl
     (passes_test (λ z. int_lt (pos 40000) z) (field words 0)) c.range_kind.result c.range_kind.ensures refl (λ _ e. e) c.in-Err-Range.field-0 c.in-Err-Range.field-0-is c.in-Err-Range.ensures
 
 pub returns-then-is_out_of_order : goal.returns-then-is_out_of_order
-returns-then-is_out_of_order c =
-    order_first _ _ c.in-Ok.ensures c.args.previous _ _ c.from_values-task.ensures (sym c.is_out_of_order.ensures ∙ c.if-is_out_of_order.true)
+returns-then-is_out_of_order g c =
+    order_first g.row.N c.args.limits.now c.requires.limits c.told-limits _ _ c.in-Ok.ensures c.args.previous _ _ c.from_values-task.ensures (sym c.is_out_of_order.ensures ∙ c.if-is_out_of_order.true)
 
 pub returns-then-task : goal.returns-then-task
-returns-then-task c =
-    window_first _ _ c.in-Ok.ensures c.args.previous _ _ c.from_values-task.ensures (sym c.is_out_of_order.ensures ∙ c.if-is_out_of_order.false) (omega arith)
+returns-then-task g c =
+    window_first g.row.N c.args.limits.now c.requires.limits c.told-limits _ _ c.in-Ok.ensures c.args.previous _ _ c.from_values-task.ensures
+    (sym c.is_out_of_order.ensures ∙ c.if-is_out_of_order.false) (omega arith)
 
 pub returns : goal.returns
-returns c = (
-  no_fault _ _ c.in-Ok.ensures c.args.previous _ _ c.from_values-task.ensures (sym c.is_out_of_order.ensures ∙ c.if-is_out_of_order.false) (omega arith),
-  task_is _ _ c.in-Ok.ensures c.args.previous _ _ c.from_values-task.ensures,
-)
+returns g c =
+    let limits = c.args.limits.now in
+    let long : length c.in-Ok.values ≡ g.row.N = search rules in (
+      no_fault g.row.N limits c.requires.limits c.told-limits _ _ c.in-Ok.ensures c.args.previous _ _ c.from_values-task.ensures
+          (sym c.is_out_of_order.ensures ∙ c.if-is_out_of_order.false) (omega arith),
+      task_is g.row.N limits c.requires.limits c.told-limits _ _ c.in-Ok.ensures c.args.previous _ _ c.from_values-task.ensures long,
+    )
