@@ -47,7 +47,7 @@ def pairs(count, fleet=None):
 
 
 def fifty():
-    return (EXAMPLES / "E-n51-k5.vrp").read_text(encoding="ascii")
+    return (EXAMPLES / "public" / "E-n51-k5.vrp").read_text(encoding="ascii")
 
 
 SIX = vrp(4, [(0, 0), (3, 4), (6, 8), (-3, 4), (-6, 8), (0, 5), (9, 1)], [0, 2, 2, 1, 1, 3, 2])

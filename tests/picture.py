@@ -267,7 +267,7 @@ def main():
         fail("examples/lc101.svg is another picture")
     for number in range(1, 11):
         check_alone(number, "lc101.sol", lilim_stops(text))
-    check("vrp", "P-n16-k8.vrp", "P-n16-k8.sol", vrp_stops(read("P-n16-k8.vrp")), [])
+    check("vrp", "public/P-n16-k8.vrp", "public/P-n16-k8.sol", vrp_stops(read("public/P-n16-k8.vrp")), [])
     text = read("one-pair.txt")
     check("lilim", "one-pair.txt", "one-pair-reversed.sol", lilim_stops(text), lilim_pairs(text), ring=2)
     text = read("lc101.txt")

@@ -29,8 +29,8 @@ AS_SHOWN = (
     "./planner explain lilim",
     "./planner load day.store",
     "./planner load sound.store",
-    "./planner solve vrp examples/E-n51-k5.vrp 1 9",
-    "./planner solve vrp examples/E-n51-k5.vrp 1000 1",
+    "./planner solve vrp examples/public/E-n51-k5.vrp 1 9",
+    "./planner solve vrp examples/public/E-n51-k5.vrp 1000 1",
 )
 # The beginnings of the guides' blocks that other tests run, with these tests. No test runs the first one.
 ELSEWHERE = {
@@ -116,7 +116,7 @@ def end_readme(begun):
         expect(f"{commands!r}: whether it is marked as not proved", "not yet proved" in errors, "./trial " in commands)
         if "night.store" in commands:
             stored = run(folder, "echo print | ./planner run night.store | sed '1d;$d'")
-            expect("the plan of a search that was killed", stored, run(folder, "./planner solve vrp examples/E-n51-k5.vrp 1000000 1"))
+            expect("the plan of a search that was killed", stored, run(folder, "./planner solve vrp examples/public/E-n51-k5.vrp 1000000 1"))
     print(f"readme: README's {len(begun)} blocks of commands print what it shows")
 
 
@@ -180,8 +180,8 @@ def check_best_known(folder):
     os.mkdir(os.path.join(folder, "vrp"))
     costs = {"P-n16-k8": "450", "longer": "440", "wrong": "450"}
     for name, cost in costs.items():
-        shutil.copy(EXAMPLES / "P-n16-k8.vrp", os.path.join(folder, "vrp", name + ".vrp"))
-        solution = (EXAMPLES / "P-n16-k8.sol").read_text(encoding="ascii")
+        shutil.copy(EXAMPLES / "public" / "P-n16-k8.vrp", os.path.join(folder, "vrp", name + ".vrp"))
+        solution = (EXAMPLES / "public" / "P-n16-k8.sol").read_text(encoding="ascii")
         write(os.path.join(folder, "vrp", name + ".sol"), solution.replace("Cost 450", "Cost 451") if name == "wrong" else solution)
     write(os.path.join(folder, "best.txt"), "".join(f"{name}\t{cost}\n" for name, cost in costs.items()) + "missing\t1\nbad\t828.94\n")
     # `audits` ends with its own status, but the block with that of its last command.
@@ -200,7 +200,7 @@ def check_seeds(folder):
     os.mkdir(os.path.join(folder, "vrp"))
     best = {"E-n51-k5": 521, "P-n16-k8": 450}
     for name in best:
-        shutil.copy(EXAMPLES / f"{name}.vrp", os.path.join(folder, "vrp"))
+        shutil.copy(EXAMPLES / "public" / f"{name}.vrp", os.path.join(folder, "vrp"))
     write(os.path.join(folder, "best.txt"), "".join(f"{name}\t{cost}\n" for name, cost in best.items()))
     printed = run(folder, block("seq 4 | xargs", "200")[0]).splitlines()
     wanted = []

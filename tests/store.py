@@ -45,7 +45,7 @@ sys.dont_write_bytecode = True
 from planner import EXAMPLES, PROGRAM, STORE_BYTES, can_trace, commands_shown, fail, read, require_program, run, run_program, skip  # noqa: E402
 
 INSTANCE = str(EXAMPLES / "lc101.txt")
-SMALL_INSTANCE = str(EXAMPLES / "P-n16-k8.vrp")
+SMALL_INSTANCE = str(EXAMPLES / "public" / "P-n16-k8.vrp")
 STEPS = 20_000
 # Twenty stages of fifty steps. For a Li-Lim instance: annealing and a search for fewer vehicles, one operation
 # each, and twenty stages of 25 steps.

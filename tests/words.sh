@@ -35,8 +35,8 @@ expect() {
 }
 
 cd -- "$top/examples" || exit 1
-for path in *.txt *.sol *.vrp; do
-    cmp -- "$path" "$top/crates/cli_tests/data/$path" || fail "cli_tests has another $path"
+for path in *.txt *.sol public/P-n16-k8.vrp public/P-n16-k8.sol public/E-n51-k5.vrp; do
+    cmp -- "$path" "$top/crates/cli_tests/data/${path#public/}" || fail "cli_tests has another $path"
 done
 
 expect 0 'pass 0 1 20' ''
@@ -76,17 +76,17 @@ $why 7: bad line: a path is empty
 $why 8: bad line: it has more than two tabs
 $why 9: bad line: a path is not UTF-8" ] || fail "audits: not why lines are bad"
 # A limit of a .vrp instance that no rule checks is named, but not one after the end.
-sed '2i vehicles : 5' P-n16-k8.vrp >"$folder/limited.vrp"
-expect 0 'pass 0 0 450' "planner: $folder/limited.vrp: line 2 sets a limit that no rule checks" audit vrp "$folder/limited.vrp" P-n16-k8.sol
-expect 0 'pass 0 0 450' "planner: $folder/limited.vrp: line 2 sets a limit that no rule checks" explain vrp "$folder/limited.vrp" P-n16-k8.sol routes
+sed '2i vehicles : 5' public/P-n16-k8.vrp >"$folder/limited.vrp"
+expect 0 'pass 0 0 450' "planner: $folder/limited.vrp: line 2 sets a limit that no rule checks" audit vrp "$folder/limited.vrp" public/P-n16-k8.sol
+expect 0 'pass 0 0 450' "planner: $folder/limited.vrp: line 2 sets a limit that no rule checks" explain vrp "$folder/limited.vrp" public/P-n16-k8.sol routes
 limit="planner: $folder/limited.vrp: line 2 sets a limit that no rule checks"
 [ "$("$program" solve vrp "$folder/limited.vrp" 0 2>&1 >/dev/null | head -n 1)" = "$limit" ] || fail "solve: not the limit that no rule checks"
 expect 0 'ok' "$limit" load "$folder/limited.store" vrp "$folder/limited.vrp"
-printf 'P-n16-k8.vrp\t%s\n%s\t%s\n' "$folder/free.sol" "$folder/limited.vrp" "$folder/limited.sol" >"$folder/tasks"
+printf 'public/P-n16-k8.vrp\t%s\n%s\t%s\n' "$folder/free.sol" "$folder/limited.vrp" "$folder/limited.sol" >"$folder/tasks"
 [ "$("$program" solves vrp "$folder/tasks" 0 2>&1 >/dev/null)" = "$limit" ] || fail "solves: not the limit that no rule checks"
-{ cat P-n16-k8.vrp && echo 'MAX_DURATION : 30'; } >"$folder/limited.vrp"
-expect 0 'pass 0 0 450' '' audit vrp "$folder/limited.vrp" P-n16-k8.sol
-printf 'P-n16-k8.vrp\tP-n16-k8.sol\t8 450\n' >"$folder/pairs"
+{ cat public/P-n16-k8.vrp && echo 'MAX_DURATION : 30'; } >"$folder/limited.vrp"
+expect 0 'pass 0 0 450' '' audit vrp "$folder/limited.vrp" public/P-n16-k8.sol
+printf 'public/P-n16-k8.vrp\tpublic/P-n16-k8.sol\t8 450\n' >"$folder/pairs"
 expect 2 'bad line' "planner: $folder/pairs: line 1: bad line: the third column is not a best-known cost such as 829" audits vrp "$folder/pairs"
 got=$(printf 'lc101.txt\t%s\t10 829\n' "$folder/routes.sol" "$folder/fraction.sol" | "$program" audits lilim - routes | cut -f 3)
 [ "$got" = "$(printf 'pass 0 10 829 gap 0.00\npass 0 10 829 gap 0.00')" ] || fail "audits of routes: $got"
@@ -217,8 +217,8 @@ cmp -s "$folder/output" "$folder/sheet" || fail "timetable: a partial plan of a 
 [ "$("$program" solve lilim "$folder/two-pairs.txt" 0 2>&1)" = "$(printf 'at 0 1 1 62\nRoute #1: 1 2\nunplanned 1: 3\nwhy 3: alone: a vehicle can serve it\nwhy 3: vehicle 1: stop 1 would start 60 late\nwhy 3: fleet: 1 of 1 vehicles are used\n')" ] || fail "solve: the plan waits for the reasons"
 # The optimum of an instance of Christofides and Eilon (1969), with each of three seeds.
 for seed in 1 2 3; do
-    "$program" solve vrp E-n51-k5.vrp 100000 "$seed" 2>/dev/null >"$folder/E-n51-k5.sol" || fail "solve E-n51-k5 by seed $seed: status $?"
-    got=$("$program" audit vrp E-n51-k5.vrp "$folder/E-n51-k5.sol")
+    "$program" solve vrp public/E-n51-k5.vrp 100000 "$seed" 2>/dev/null >"$folder/E-n51-k5.sol" || fail "solve E-n51-k5 by seed $seed: status $?"
+    got=$("$program" audit vrp public/E-n51-k5.vrp "$folder/E-n51-k5.sol")
     [ "$got" = 'pass 0 0 521' ] || fail "E-n51-k5 by seed $seed: $got; wanted pass 0 0 521"
 done
 "$program" solve lilim lc101.txt 500 9 >"$folder/lc101.sol" 2>/dev/null && "$program" audit lilim lc101.txt "$folder/lc101.sol" >/dev/null || fail "audit does not pass what solve prints"
