@@ -39,7 +39,7 @@ ELSEWHERE = {
     "for it in $(cut": "published.sh",
     "./planner solve lilim lc101.milli": "published.sh",
     "now=600": "store.py",
-    "cp day.store day.copy": "store.py",
+    "cp day.store day.new": "store.py",
     "./planner instance day.store": "adopt.py",
     "echo print | ./planner run day.store": "adopt.py",
 }

@@ -21,8 +21,8 @@
 9. Attempts to use fewer vehicles are reported on standard error. The documents' commands for `freeze`, exactly
    as written there.
 10. A copy of a store that is open, made after a `checkpoint`, is complete. A store whose end is missing is
-    refused, left alone, and opens when zeros replace the end. For a file that has no store, standard error says
-    what it may be.
+    refused, left alone, and opens when zeros replace the end; one with a line too many opens when it is cut. For a
+    file that has no store, standard error says what it may be.
 11. check: after a crash a store is `ok`, also a new one. A store with damaged headers or records is `suspect`,
     with the reason.
 
@@ -477,14 +477,22 @@ def check_copies(folder):
     os.truncate(copy, STORE_BYTES)
     if run(copy, b"show\n") != shown:
         fail("copies: a store that is made long again has another state")
-    print("store: a copy after a checkpoint is complete, and one without its end is left alone")
+    with open(copy, "ab") as file:
+        file.write(b"withdraw 3\n")
+    got = run_program("check", copy)
+    if (got.returncode, got.stdout) != (2, b"store BadLength\n"):
+        fail(f"copies: a line too many: status {got.returncode}, {got.stdout!r}, {got.stderr!r}")
+    os.truncate(copy, STORE_BYTES)
+    if run(copy, b"show\n") != shown:
+        fail("copies: a store whose line too many is cut off has another state")
+    print("store: a copy after a checkpoint is complete; one without its end, or with a line too many, is left alone")
 
 
 def check_documents_copies(folder):
     """Checks the documents' commands for a copy, exactly as written there: the copy is consistent, and putting it
     back restores the store.
     """
-    commands = commands_shown("cp day.store day.copy")
+    commands = commands_shown("cp day.store day.new")
     place = os.path.join(folder, "copies")
     os.mkdir(place)
     os.symlink(PROGRAM, os.path.join(place, "planner"))
@@ -493,9 +501,9 @@ def check_documents_copies(folder):
     run(store, b"build\nsearch 3\n")
     before = read(store)
     got = subprocess.run(["sh", "-e", "-c", commands], cwd=place, capture_output=True)
-    if (got.returncode, got.stdout, got.stderr) != (0, b"ok\n", b"planner: repeating 3 search steps\n"):
+    if (got.returncode, got.stdout, got.stderr) != (0, b"ok\nday.copy: OK\n", b"planner: repeating 3 search steps\n"):
         fail(f"documents: a copy: status {got.returncode}, {got.stdout!r}, {got.stderr!r}")
-    if read(store) != before or sorted(os.listdir(place)) != ["day.copy", "day.store", "planner"]:
+    if read(store) != before or sorted(os.listdir(place)) != ["day.copy", "day.copy.sha256", "day.store", "planner"]:
         fail(f"documents: a copy: {sorted(os.listdir(place))}")
     print("store: the documents' commands copy a store, check the copy and put it back")
 
