@@ -12,7 +12,7 @@
 5. No paragraph has more than 90 words.
 6. A name that is given with its place is declared there, not merely used, and not elsewhere. A place is a file
    or a crate:
-   - after the name, in brackets: `Rules.IsLate` (plan_audit), `search_steps` and `walk_on`
+   - after the name, in brackets: `Rules.IsLate` (plan_audit), `search_steps` and `continue_search`
      (`seeded_search/src/search.rt`)
    - before the name, in a table's cell: `plan_audit/src/scan.rt` `first_late`; a file name without a folder,
      for example `slow.rt`, means one beside it, or one in its specs/

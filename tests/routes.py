@@ -76,16 +76,16 @@ def starts(instance, route):
 def broken(instance, routes):
     """Returns each place that breaks a rule, as (rule, route, place, stop), if no earlier rule is broken."""
     places = [(r, p, stop) for r, route in enumerate(routes, 1) for p, stop in enumerate(route, 1)]
-    seats = {}
+    positions = {}
     for r, p, stop in places:
-        seats.setdefault(stop, (r, p))
+        positions.setdefault(stop, (r, p))
     yield [(1, r, p, stop) for r, p, stop in places if stop == 0 or stop not in instance.stops]
-    yield [(2, r, p, stop) for r, p, stop in places if seats[stop] != (r, p)]
+    yield [(2, r, p, stop) for r, p, stop in places if positions[stop] != (r, p)]
     partners = [(r, p, stop, instance.partner[stop]) for r, p, stop in places if stop in instance.partner]
-    unserved = [(3, 0, 0, name) for name, stops in instance.requests.items() if not any(stop in seats for stop in stops)]
-    yield unserved + [(3, r, p, other) for r, p, _, other in partners if other not in seats]
-    yield [(4, r, p, stop) for r, p, stop, other in partners if seats[other][0] != r]
-    yield [(5, r, p, stop) for r, p, stop, other in partners if stop not in instance.requests and seats[other][1] > p]
+    unserved = [(3, 0, 0, name) for name, stops in instance.requests.items() if not any(stop in positions for stop in stops)]
+    yield unserved + [(3, r, p, other) for r, p, _, other in partners if other not in positions]
+    yield [(4, r, p, stop) for r, p, stop, other in partners if positions[other][0] != r]
+    yield [(5, r, p, stop) for r, p, stop, other in partners if stop not in instance.requests and positions[other][1] > p]
     loads = [(r, p, stop, sum(instance.stops[it].demand for it in routes[r - 1][:p])) for r, p, stop in places]
     yield [(6, r, p, stop) for r, p, stop, load in loads if load > instance.capacity]
     if instance.kind == "lilim":
