@@ -1,4 +1,4 @@
--- Strings by hand
+-- Strings worked out by hand. The second number of each is the drawn word of 32 bits.
 use Rattle.std.proofs.Common.{◌≡◌, ◌^◌, ◌-◌, [], ◌∷◌, Some, None, refl}
 use Rattle.anneal_search.specs.Strings.{longest, route_count, cut_of}
 
@@ -10,7 +10,8 @@ alone = refl
 whole : cut_of 10 (2 ^ 32 - 1) 4 2 ≡ record { first = 0; end = 4; kept = None }
 whole = refl
 
--- Two of five stops around the third one: the rest of the word draws that one more stays, and their position
+-- A string around the third of five stops removes two of them. The rest of the word draws that one stop within
+-- it stays, and the position of the string.
 split : cut_of 3 (2 ^ 31) 5 2 ≡ record { first = 0; end = 3; kept = Some 1 }
 split = refl
 

@@ -37,7 +37,7 @@
 //! - `laws`: what nearest stops, strings and orders mean, and what steps preserve
 //!
 //! Proved: `anneal_step`, `anneal_steps`, `continue_annealing` and `attempt_steps` return exactly the plans of
-//! the definitions in `specs/Annealing.antt` and `specs/Trying.antt`, or `OutOfMemory`. Plans that pass lead to
+//! the definitions in `specs/Annealing.antt` and `specs/AttemptState.antt`, or `OutOfMemory`. Plans that pass lead to
 //! plans that pass, the incumbent never becomes more expensive, and splitting many annealing steps changes
 //! nothing. The laws say what the definitions mean: nearest stops are nearest, strings lie around them and are
 //! no longer than allowed, and orders are sorted permutations.

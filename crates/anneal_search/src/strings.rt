@@ -141,8 +141,9 @@ fn totals_of(draft: &Draft) -> Totals
     Totals { stops, used }
 }
 
-// Returns the number of routes to cut. Christiaens and Vanden Berghe draw between 1 and 4 * 10 / (1 + longest),
-// to remove about ten stops on average: here 1, and a part of 4 * 10 - (1 + longest) in units of 1 + longest.
+// Returns the number of routes to cut. Christiaens and Vanden Berghe cut between 1 and 4 * 10 / (1 + longest)
+// routes, to remove about ten stops on average. Here it is 1 plus a number drawn below 4 * 10 - (1 + longest),
+// divided by 1 + longest and rounded down, and at most 12.
 fn route_count(longest: usize, word: u32) -> usize
     requires { longest ≤ 10 }
     ensures value { result ≡ route_count longest word }

@@ -28,7 +28,7 @@ pub record IsComparedAnswer (routes_alone : Bool) (kind : Kind) (best : BestCost
   pub is_examined : IsExaminedBy routes_alone kind instance solution examined
   pub answers : answer ≡ compared_answer best examined
 
--- The answer for two texts of a list, which may have a best-known cost after them.
+-- The answer for the two texts that a line of a list names. The line may have a best-known cost after them.
 abbrev pub IsListedAnswer : Bool → Kind → Option BestCost → List ℕ → List ℕ → AuditAnswer → Type 0
 IsListedAnswer routes_alone kind None instance solution answer = IsAnswerBy routes_alone kind instance solution answer
 IsListedAnswer routes_alone kind (Some best) instance solution answer = IsComparedAnswer routes_alone kind best instance solution answer

@@ -71,7 +71,7 @@ abbrev pub IsExaminedBy : Bool → Kind → List ℕ → List ℕ → Examinatio
 IsExaminedBy false kind instance solution examined = IsExamined kind instance solution examined
 IsExaminedBy true kind instance solution examined = AreRoutesExamined kind instance solution examined
 
--- If both texts spell a value, the verdict is that on the two with some printed cost.
+-- If both texts can be read, the verdict is that on the problem and on these routes with some printed cost.
 abbrev pub HasVerdictForSomeCost : Examination → Type 0
 HasVerdictForSomeCost (BadInstance fault) = Unit {0}
 HasVerdictForSomeCost (BadSolution fault) = Unit {0}

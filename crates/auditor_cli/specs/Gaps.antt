@@ -16,7 +16,7 @@ places_text n = codes "." ++ decimal (n / 10) ++ decimal (n % 10)
 abbrev pub percent_text : ℕ → List ℕ
 percent_text n = decimal (n / 100) ++ places_text (n % 100)
 
--- the decimal places to which a number may be rounded, for example 10 for 828,940
+-- a number may be rounded to a multiple of one of these, for example 828,940 to one of 10
 abbrev pub places : List ℕ
 places = 10 ∷ 100 ∷ 1000 ∷ 10000 ∷ 100000 ∷ 1000000 ∷ 10000000 ∷ 100000000 ∷ 1000000000 ∷ []
 

@@ -6,7 +6,7 @@ ghost use Rattle.auditor_cli.specs.Gaps.{gap_text, hundredths, is_rounded_to, pe
 use plan_types::OutOfMemory;
 use std::alloc::Global;
 
-/// The decimal places, in units of the instance, to which a published distance may be rounded.
+/// A published distance may be rounded to a multiple of one of these, in units of the instance.
 static PLACES: [u64; 9] = [
     10,
     100,
@@ -45,9 +45,9 @@ fn shorter_text(alloc: Global, difference: u64, best: u64) -> Result<String, Out
     format!(in alloc; " gap -{percent}")
 }
 
-// Returns whether a distance that is shorter by this difference, rounded at some decimal place, is the
-// best-known one. That place must be one from which on the best-known distance has only zeros, since a distance
-// that was published with fewer digits ends in zeros.
+// Returns whether a distance that is shorter by this difference, rounded to a multiple of one of `PLACES`, is the
+// best-known one. The best-known distance must itself be such a multiple, since a distance that was published
+// with fewer digits ends in zeros.
 fn is_rounded_away(difference: u64, best: u64) -> bool
     ensures { result ≡ list_any (is_rounded_to difference best) places }
 {

@@ -1,6 +1,6 @@
 //! Checks that a plan from elsewhere passes with the pins of a job, without allocating.
 //!
-//! The auditor allocates a list of vehicle assignments, but `check` may not allocate. So each stop is compared
+//! The auditor allocates a table of the first position of each stop, but `check` may not allocate. So each stop is compared
 //! with all later ones, in quadratic time.
 ghost use Rattle.std.specs.Prelude.{◌≡◌, ◌++◌, ◌&&◌, All, is_some};
 ghost use Rattle.std.specs.List.{concat, list_all};

@@ -22,7 +22,7 @@
 //!
 //! Modules, in reading order:
 //! - `fields`: the numbers of a line
-//! - `asked`: the parsed command, and `read_line`
+//! - `parsed_command`: the parsed command, and `read_line`
 //! - `verbs`: the commands that announce no text, by name and numbers
 //! - `first_word`: the first word of a line that arrives in parts
 //! - `steps`: the operations of a command that makes steps; `staging`: those of annealing in stages

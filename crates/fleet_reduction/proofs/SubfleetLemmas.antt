@@ -127,7 +127,7 @@ times_count : (x : ℕ) (ns : List ℕ) → times x ns ≡ count_by (λ n. nat_e
 times_count x [] = refl
 times_count x (n ∷ ns) = let h = times_count x ns in omega (arith, h, counted_more (λ n. nat_eq x n) n ns)
 
--- of distinct numbers, a list has at most as many as it has items
+-- a list contains at most as many of some distinct numbers as it has items
 none_counted : (ns : List ℕ) → count_by (has []) ns ≡ 0
 none_counted [] = refl
 none_counted (n ∷ ns) = let h = none_counted ns in omega (arith, h, counted_more (has []) n ns)

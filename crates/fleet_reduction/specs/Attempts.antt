@@ -73,11 +73,12 @@ module _ (p : Instance) (pins : List (List ℕ)) where
   attempts_from seed count end zero t = t
   attempts_from seed count end (suc left) t = if can_continue end t then attempts_from seed count end left (next seed count end t) else t
 
-  -- an upper bound of the number of attempts: each makes a step, or lowers the number of used vehicles or of
-  -- vehicles to leave out; there are none if vehicles do not count
+  -- an upper bound on the number of attempts: each makes a step, or lowers the number of used vehicles, or the
+  -- number of vehicles that the next attempt leaves out
   abbrev pub max_attempts : ℕ → Attempts → ℕ
   max_attempts count t = count + (p.fleet + 1 + t.size)
 
+  -- the attempts; there are none if vehicles do not count
   abbrev pub attempts_of : Kind → ℕ → ℕ → Attempts → Attempts
   attempts_of LiLim seed count t = attempts_from seed count (t.step + count) (max_attempts count t) t
   attempts_of Vrp seed count t = t

@@ -25,7 +25,7 @@ pub record IsBetweenAttempts (p : Instance) (pins : List (List ℕ)) (end : ℕ)
   pub plan : passes p pins t.plan ≡ true
   pub last : t.step ≤ end
 
--- an upper bound of the remaining attempts: each makes a step, or lowers the number of used vehicles or of
--- vehicles to leave out
+-- an upper bound on the remaining attempts: each makes a step, or lowers the number of used vehicles, or the
+-- number of vehicles that the next attempt leaves out
 abbrev pub attempts_left : Instance → ℕ → Attempts → ℕ
 attempts_left p end t = end - t.step + ((if serves_all p t.plan then used_count t.plan else p.fleet + 1) + t.size)

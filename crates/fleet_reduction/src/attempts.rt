@@ -27,7 +27,7 @@ use plan_types::{
 use route_sched::{plan_cost, used_count};
 use std::alloc::Global;
 
-/// How much longer than the working plan a candidate may be in an attempt, in hundredths of the mean leg.
+/// The length by which a candidate may exceed the working plan in an attempt, in hundredths of the mean leg.
 const ATTEMPT_HUNDREDTHS: u32 = 1000;
 
 /// Runs attempts for at most `count` steps, from step number `step` on. Each attempt has some vehicles fewer or,

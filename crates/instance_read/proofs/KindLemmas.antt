@@ -21,7 +21,7 @@ none_below fault n small count number stops range order window EmptyWindow e = n
 none_below fault n small count number stops range order window Unsupported e = small
 none_below fault n small count number stops range order window _ e = omega arith
 
--- the test decides which of the two faults it is
+-- the test decides whether the first fault is `TooManyStops` or `Range`
 pub stops_or_range : (fault : ReadFaultKind → Bool) (t : Bool) (kind : ReadFaultKind) → kind ≡ cond t TooManyStops Range → fault FieldCount ≡ false
     → fault BadNumber ≡ false → fault TooManyStops ≡ t → (t ≡ false → fault Range ≡ true) → IsFirstKind fault kind
 stops_or_range fault true kind is count number stops range =

@@ -66,7 +66,7 @@ header_limits_of words header none is =
       capacity = rw is.1 (magnitude_le 1000000 (value_at words 1) capacity.1);
     }
 
--- the same for a line with fleet and capacity only
+-- the limits that a line with fleet and capacity only keeps
 pub two_limits_of : (words : List (List ℕ)) (header : FleetLine) → HasNoKind (numbers_fault 2 header_limits words) → IsHeader words header → HeaderKeepsLimits header
 two_limits_of words header none is =
     let two = eqb-true (length words) 2 (not-false (length words == 2) (none FieldCount)) in

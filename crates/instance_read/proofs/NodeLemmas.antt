@@ -53,7 +53,7 @@ module _ {T : Type 0} (table : List (Option T)) (words : List (List ℕ)) where
 pub index_is : (words : List (List ℕ)) (node : ℕ) → field words 0 ≡ Some (pos node) → node_index words ≡ node - 1
 index_is words node at = ap (λ (o : Option ℤ). unsigned_abs (unwrap_or o (pos 0)) - 1) at
 
--- a table of nodes after the line of a node; `given` is another name of the limits
+-- a table of nodes after the line of a node; `given` equals `limits`
 module _ {T : Type 0} (count : ℕ) (given limits : List (ℤ × ℤ)) (same : given ≡ limits) (words : List (List ℕ))
     (read : HasNoKind (node_fault count given (λ _. false) words)) (node : ℕ) (one : 1 ≤ node) (at : field words 0 ≡ Some (pos node)) (items table new : List (Option T))
     (is : table ≡ items) (value : T) where

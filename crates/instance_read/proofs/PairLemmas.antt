@@ -164,7 +164,7 @@ module _ (tasks : List Task) (p d p' d' : Task) (pair : IsPair tasks p d) (pair'
       cond-false (eqb p'.stop.number n) (Some p'.stop) _ (ne_eqb p'.stop.number n apart.0)
       ∙ cond-false (eqb d'.stop.number n) (Some d'.stop) None (ne_eqb d'.stop.number n apart.1)
 
--- the task is good, and its number is below n
+-- the task is found at its number, valid and paired, and its number is below n
 abbrev IsEarlier : List Task → ℕ → Task → Type 0
 IsEarlier tasks n t = IsGood tasks t × (t.stop.number < n)
 
@@ -231,7 +231,7 @@ pair_free tasks ts p d problem valid paired pair before is (inl taken) =
 pair_free tasks ts p d problem valid paired pair before is (inr taken) =
     not_some (stop_at problem d.stop.number) (ap (first_some (stop_in d.stop.number)) is ∙ free tasks valid paired p d pair d.stop.number ts (inr refl) before) taken
 
--- the tasks before the one at place i are good and have smaller numbers
+-- the tasks before the one at place i are found at their numbers, valid and paired, and have smaller numbers
 pub earlier_at : (tasks : List Task) (i : ℕ) (d : Task) → AllByRecursion IsCustomer tasks → AscendsFrom 0 tasks → ArePaired tasks → i < length tasks
     → AllByRecursion (IsEarlier tasks (get_or tasks i d).stop.number) (take i tasks)
 earlier_at tasks i d valid ascending paired l =

@@ -55,7 +55,7 @@ pub record IsFirstStopFault (limits : List (ℤ × ℤ)) (previous : Option Task
 abbrev pub ReportsStopFault : List (ℤ × ℤ) → Option Task → List Row → ReadFault → Type 0
 ReportsStopFault limits previous rows f = (f ≡ out_of_memory) ⊎ IsFirstStopFault limits previous rows f
 
--- the same for the lines of Li-Lim tasks
+-- a fault of one of these lines, each with a Li-Lim task
 abbrev pub TaskLineFault : Option Task → List Row → ℕ → ReadFaultKind → Type 0
 TaskLineFault previous rows line kind = StopLineFault task_limits previous rows line kind
 

@@ -237,7 +237,7 @@ passed_over p r c kept v l best below valid course named stops out loose =
     subst (λ o. IsBetterBelow p (course_route c) r kept v o best best (bound_of v o l best)) (sym (used_opens p.kind (course_route c) some))
     (still p (course_route c) r kept v l best below loose (out p (request_name r) kept valid course named))
 
--- the best so far stays at a vehicle into whose route the request fits at no price
+-- the best so far stays at a vehicle into whose route the request fits nowhere, whatever the bound is
 pub passed_by : (p : Instance) (r : Request) (c : Course) (kept v : ℕ) (l : Limit) (best : Option Candidate) → IsInstance p → IsCourseIn p c
     → request_named p (request_name r) ≡ Some r → ((below : ℤ) → FitsNowhere c r below)
     → IsBetter p (course_route c) r kept v l best best

@@ -26,7 +26,7 @@ module _ {D : Type 0} (on : sectors.Ghosts D) where
   opening_of IsReady IsBare IsNone device ready (Err (File refusal)) is = absurd is
   opening_of IsReady IsBare IsNone device ready (Err (FormatFailed fault left)) is = absurd is
 
-  -- If there is a device, the number of steps may have been printed before.
+  -- If opening failed after the device was there, the number of steps to repeat may have been printed before.
   pub foreseen_of : (device : D) (opening : Result (Opened D) (OpenFailure D)) (before after : Option (List ℕ)) → IsOpening on device opening
       → IfErr opening (λ unopened. MayAnnounceReplay unopened before after)
   foreseen_of device (Ok opened) before after is = tt

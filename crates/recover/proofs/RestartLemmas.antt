@@ -167,8 +167,8 @@ one_each (r ∷ restarts) (x ∷ runs) device left are = ap suc (one_each restar
 one_each [] (x ∷ runs) device left are = elim are [ ]
 one_each (r ∷ restarts) [] device left are = elim are [ ]
 
--- The restarts that were executed, from their first part and the rest: the next one did not begin, or the last
--- opening failed.
+-- If the restarts in `before` were executed and then the next one did not begin, or the last opening failed, the
+-- list was cut there.
 pub cuts_restarts : (restarts before more : List Restart) (runs : List (Result Run StoreFault)) (device mid left : MemDevice) (fault : RoundsFault) → before ++ more ≡ restarts
     → AreRestarts device before runs mid → IsUnbegun mid fault left → ((cause : StoreFault) → fault ≡ rounds.Open cause → more ≡ []) → CutsRestarts device restarts fault left
 cuts_restarts restarts before more runs device mid left fault all are unbegun last = record {

@@ -21,7 +21,7 @@ use Rattle.recover.specs.Moments.{RecoversToPrefix, RunLeaves}
 use Rattle.recover.specs.Sessions.{SessionValue}
 use Rattle.recover.specs.Applying.{IsBetween, IsAnswer, Makes, denial, calls_of, is_snapshot_due, IsApplied, IsRun}
 
--- The acknowledged commands are that of the first reply, if it is, and those of the others.
+-- The number of acknowledged commands is that of the other replies, plus one if the first reply is acknowledged.
 acked-cons : (m : ℕ) (reply : Reply) (replies : List Reply) → acked m (reply ∷ replies) ≡ cond (is_acknowledged m reply) 1 0 + acked m replies
 acked-cons m reply replies = sum_by-cons (λ r. cond (is_acknowledged m r) 1 0) reply replies
 

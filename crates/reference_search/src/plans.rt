@@ -50,8 +50,8 @@ pub(crate) fn built(
     Ok(plan)
 }
 
-// Returns the plan with the request in the vehicle after the first `before` ones, or unchanged if that is not
-// possible.
+// Returns the plan with the request inserted into vehicle `before` + 1 as its whole route, or the plan unchanged
+// if that is not possible.
 fn in_empty_vehicle(
     alloc: Global,
     problem: &Problem,

@@ -216,7 +216,7 @@ module _ (p : Instance) (t : Tour) (at : ℕ) (tour : IsTour p t) (one : 1 ≤ a
             missed_at p both found.0 kind found.1)
       ]
 
--- ---- the best trial stays the best beside all places of the delivery
+-- ---- the best trial remains the best, whatever place the delivery has
 module _ (p : Instance) (t : Tour) (place : ℕ) (within : place ≤ length t.route.now + 1) (from : 1 < place) (a b : Stop) (best : Trial) where
   abbrev with_pickup : List ℕ
   with_pickup = route_with t (place - 1) a.number

@@ -137,7 +137,7 @@ fn passing_routes<'a>(problem: &Problem, pins: &Pins, plan: &'a Plan) -> &'a [Ro
     plan.routes.as_slice()
 }
 
-// Returns the current request of this name. It may be tried alone, and in each route that has none of its
+// Returns the current request of this name. The caller may try it alone, and in each route that has none of its
 // stops.
 fn current_request(problem: &Problem, name: u32) -> Option<&Request>
     ensures named { option_copied result ≡ request_named problem.now name }
@@ -147,7 +147,8 @@ fn current_request(problem: &Problem, name: u32) -> Option<&Request>
     problem.requests.get(&name)
 }
 
-// Returns the request that has this stop. It may be tried alone, and in each route that has none of its stops.
+// Returns the request that has this stop. The caller may try it alone, and in each route that has none of its
+// stops.
 fn request_at(problem: &Problem, stop: u32) -> Option<&Request>
     ensures found { option_copied result ≡ request_with problem.now stop }
     ensures tried { IfSome result (λ request. CanBeTried problem.now request.now) }

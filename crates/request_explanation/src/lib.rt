@@ -17,8 +17,9 @@
 //! violation. If the best trial violates less than what is found so far, the remaining places are skipped,
 //! since each of them violates at least as much.
 //!
-//! No row is delayed for a trial that cannot win: its distance is no shorter than the best trial's, and the
-//! best trial exceeds no limit, or is late by 1 while the latest arrivals show that the new one is late too.
+//! No row is delayed for a trial that cannot win. That is known if its distance is no shorter than the best
+//! trial's, and the best trial either exceeds no limit, or is late by only 1 and the latest arrivals show that
+//! the new trial is late too.
 //!
 //! A place of the pickup is skipped, with all places of the delivery, in two cases. Either the best trial
 //! violates less than what is found up to the pickup. Or the pickup alone makes the route longer than the best

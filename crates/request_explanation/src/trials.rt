@@ -163,7 +163,7 @@ fn best_delivery(
     )
 }
 
-// Returns whether the best trial so far surely beats every trial with the pickup, the stop of the tour, at this
+// Returns whether the best trial so far surely beats every trial with the pickup (the stop of the tour) at this
 // place. `front` was found before that place. Each such trial violates at least what is found up to the pickup.
 // Its distance is at least the distance with the pickup alone, less 1, since a detour to the delivery saves at
 // most 1.

@@ -52,7 +52,7 @@ no_place n k (m ∷ ms) is j at = elim (eqb_tells m n) [
     further m n ms ne rest (suc j) at = rest j at
 
 -- s is the position at place j of route d, both counted from 0, and no earlier position has the stop; the
--- routes of s count from k
+-- first of these routes has number k
 pub record IsFirstSeat (n k : ℕ) (routes : List (List ℕ)) (s : StopPosition) : Type 0 where
   pub at_route : ℕ
   pub at_place : ℕ

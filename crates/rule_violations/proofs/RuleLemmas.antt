@@ -110,7 +110,7 @@ module _ (p : Instance) (routes : List (List ℕ)) where
       by None h = refl
       by (Some s) h = not_so h
 
-  -- rule 2: the first position of a stop is another one exactly if it is earlier
+  -- rule 2: the first position of a stop differs from this position exactly if it is earlier
   pub twice_all : AreAll (IsViolation p routes VisitedTwice) (stop_violations p routes VisitedTwice)
   twice_all =
       rule_places p routes VisitedTwice (λ r route i n. is_repeated (position_at r i) (first_position routes n)) (λ r route i n. 0)
@@ -248,7 +248,7 @@ module _ (p : Instance) (routes : List (List ℕ)) where
               let same = only.0 in let same' = only.1 in
               both (eqb s.route (r + 1)) (nat_lt (i + 1) s.place) (same_test s.route (r + 1) (omega arith)) (lt-ltb (i + 1) s.place (omega arith))
 
-  -- the route of a position is the one that the excess uses
+  -- the route at index r, from which the excess is computed, is that of the position
   on_route : (r i n : ℕ) (t : Sits routes r i n) → unwrap_or (slice_get routes r) [] ≡ t.0
   on_route r i n t = ap (λ o. unwrap_or o []) t.1
 

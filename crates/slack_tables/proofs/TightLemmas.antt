@@ -187,7 +187,7 @@ closed-past limits places p i e ascending one is late = λ k following before q 
     late-pickup limits places p q d ascending i k j one (omega arith) order last
     (subst (λ (e : PlaceSlack). is_in_time limits.kind e.at.start p.latest ≡ false) (is d) late)
 
--- ---- a closed place adds nothing
+-- ---- closed places may be skipped: the best insertion from the first open place on is the best of all
 pub open-only : (limits : Limits) (places : List PlaceSlack) (p q : Stop) (kept first : ℕ) (below : ℤ) (d : PlaceSlack) (o : Option PricedInsertion)
     → kept < first → AreClosed limits places p kept first → IsFirstOf (AddsPair limits places p q (first - 1) below d) o
     → IsFirstOf (AddsPair limits places p q kept below d) o

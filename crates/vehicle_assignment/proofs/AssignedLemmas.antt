@@ -71,12 +71,12 @@ module _ (f : List ℕ → ℕ) (none : f [] ≡ 0) where
       omega (arith, rest, made, old)
 
 -- ---- vehicles with pins
--- the route begins with the pin, and together with the remaining routes it counts as much as all
+-- the route begins with the pin, and any sum over this route and the remaining ones is the sum over all routes
 abbrev IsTaking : List ℕ → List (List ℕ) → TakenRoute → Type 0
 IsTaking pin routes t = ((f : List ℕ → ℕ) → f [] ≡ 0 → f t.route + sum_by f t.remaining ≡ sum_by f routes) × (starts_with nat_eq t.route pin ≡ true)
 
--- the routes that all vehicles so far have taken begin with their pins, and together with the remaining routes
--- they count as much as all
+-- the routes that the vehicles so far have taken begin with their pins, and any sum over these and the remaining
+-- routes is the sum over all routes
 record AreTaken (pins routes : List (List ℕ)) (claims : Assignment) : Type 0 where
   counted : (f : List ℕ → ℕ) → f [] ≡ 0 → sum_by f claims.assigned + sum_by f claims.remaining ≡ sum_by f routes
   assigned : length claims.assigned ≡ length pins

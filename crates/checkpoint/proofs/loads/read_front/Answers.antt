@@ -1,4 +1,4 @@
--- The bytes that reads returned are the front of the image, and the header found there is the image's current
+-- The bytes that reads returned are the first bytes of the image, and the header found there is the image's current
 -- one.
 use Rattle.std.proofs.Common.{ℕ, List, sym, ◌∙◌, subst, arith}
 use Rattle.checkpoint.specs.Reads.{IsImageFront}
