@@ -158,7 +158,7 @@ attempts_are_short p pins deviation seed most t = ends p pins deviation seed mos
 
 -- ---- the code's steps
 
--- If another step is made, the remaining steps lead to the result of all
+-- If another step is made, the remaining steps after it lead to the result of all steps
 pub step_on : (p : Instance) (pins : List (List ℕ)) (deviation seed most made : ℕ) (t new all : AttemptState) (best : Cost) (words : List ℕ) (key number : ℕ)
     → attempt_steps p pins deviation seed (most - made) t ≡ all → made < most → best ≡ cost_of p t.incumbent → (best.unplanned == 0) ≡ false
     → words ≡ step_words key number → key ≡ seed → number ≡ t.step → new ≡ attempt_after p deviation t (candidate p pins t.working words)

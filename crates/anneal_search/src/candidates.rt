@@ -51,8 +51,8 @@ pub(crate) fn make(
     Ok(Some(missing))
 }
 
-/// Like `make`, but the candidate has to be near a plan; it is dropped as soon as it is known to be too far.
-/// Returns whether there is a candidate.
+/// Like `make`, but the candidate has to pass the threshold `near`. The draft is discarded as soon as it is
+/// known that the candidate will not. Returns whether there is a candidate.
 pub(crate) fn make_candidate_near(
     alloc: Global,
     problem: &Problem,

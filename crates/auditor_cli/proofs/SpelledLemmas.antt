@@ -1,4 +1,5 @@
--- A text spells at most one value, and none if it has a fault.
+-- An instance spells at most one problem, and the text of a solution at most one solution. A text with a fault
+-- spells none.
 use Rattle.std.proofs.Common.{◌≡◌, ◌≤◌, ◌∙◌, ℕ, List, refl, sym, ap, subst, inl, inr, arith}
 use Rattle.plan_audit.specs.Laws.{AreAllPlanned, IsSoundPlan, RoutesAreJudgedByTrueCost, SolutionsPassIffSound}
 use Rattle.plan_audit.specs.Verdict.{IsRoutesVerdict, IsVerdict, printed}

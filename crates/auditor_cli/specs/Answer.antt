@@ -46,13 +46,13 @@ pub record RefusesSolution (kind : Kind) (instance solution : List ℕ) (answer 
 abbrev pub IsSolutionVerdict : Instance → Solution → Verdict → Type 0
 IsSolutionVerdict problem plan verdict = IsVerdict problem (printed plan.routes plan.cost) verdict
 
--- The answer is that of a verdict on these values.
+-- The answer is that of a verdict on this problem and this solution.
 pub record AnswersVerdict (problem : Instance) (plan : Solution) (answer : AuditAnswer) : Type 0 where
   pub verdict : Verdict
   pub is_verdict : IsSolutionVerdict problem plan verdict
   pub reported : answer ≡ verdict_answer verdict
 
--- Both texts spell a value, and the answer is that of the verdict on the two values.
+-- Both texts can be read, and the answer is that of the verdict on the problem and the solution.
 pub record Judges (kind : Kind) (instance solution : List ℕ) (answer : AuditAnswer) : Type 0 where
   pub problem : Instance
   pub problem_spelled : SpellsInstance kind instance problem
@@ -65,12 +65,12 @@ pub record Judges (kind : Kind) (instance solution : List ℕ) (answer : AuditAn
 abbrev pub IsAnswer : Kind → List ℕ → List ℕ → AuditAnswer → Type 0
 IsAnswer kind instance solution answer = RefusesInstance kind instance answer ⊎ (RefusesSolution kind instance solution answer ⊎ Judges kind instance solution answer)
 
--- Whatever two values the texts spell, the answer is that of a verdict on them.
+-- If the texts spell a problem and a solution, the answer is that of a verdict on these two.
 abbrev pub JudgesSpelled : Kind → List ℕ → List ℕ → AuditAnswer → Type 0
 JudgesSpelled kind instance solution answer =
     (problem : Instance) (plan : Solution) → SpellsInstance kind instance problem → sol_faults.Spells solution plan → AnswersVerdict problem plan answer
 
--- Both texts spell values, and the solution is sound, serves each request, uses no more vehicles than there are,
+-- Both texts can be read, and the solution is sound, serves each request, uses no more vehicles than there are,
 -- and prints its true distance.
 pub record AreSound (kind : Kind) (instance solution : List ℕ) : Type 0 where
   pub problem : Instance
@@ -88,7 +88,7 @@ SaysSound kind instance solution answer = (answer.status ≡ 0) ↔ AreSound kin
 
 -- ---- The routes only
 
--- Both texts spell a value, whatever cost is printed, and the answer is that of the verdict on the routes.
+-- Both texts can be read, whatever cost is printed, and the answer is that of the verdict on the routes.
 pub record JudgesRoutes (kind : Kind) (instance solution : List ℕ) (answer : AuditAnswer) : Type 0 where
   pub problem : Instance
   pub problem_spelled : SpellsInstance kind instance problem
@@ -105,7 +105,7 @@ IsRoutesAnswer kind instance solution answer =
     RefusesInstance kind instance answer
     ⊎ (RefusesSolution kind instance (routes_text solution) answer ⊎ JudgesRoutes kind instance solution answer)
 
--- Both texts spell values, and the routes are sound, serve each request, and use no more vehicles than there
+-- Both texts can be read, and the routes are sound, serve each request, and use no more vehicles than there
 -- are.
 pub record HasSoundRoutes (kind : Kind) (instance solution : List ℕ) : Type 0 where
   pub problem : Instance

@@ -18,6 +18,6 @@ planned_text cost = if cost.unplanned == 0 then pass_text cost else partial_text
 abbrev pub broken_text : ℕ → ℕ → ℕ → ℕ → List ℕ
 broken_text rule route place stop = codes "broken " ++ decimal rule ++ codes " route " ++ decimal route ++ codes " place " ++ decimal place ++ codes " stop " ++ decimal stop
 
--- A text that spells no value: `TEXT NAME LINE`, with the name of its fault.
+-- The line for a text that can't be read: `TEXT NAME LINE`, with the name of its fault.
 abbrev pub fault_text : List ℕ → List ℕ → ℕ → List ℕ
 fault_text text name line = text ++ codes " " ++ name ++ codes " " ++ decimal line

@@ -23,7 +23,7 @@ pub record IsBadSolution (kind : Kind) (instance solution : List ℕ) (fault : S
   pub spelled : SpellsInstance kind instance problem
   pub first : sol_faults.IsFirstFault solution fault
 
--- Both texts spell a value, and this is the verdict on the two.
+-- Both texts can be read, and this is the verdict on the problem and the solution.
 pub record IsJudged (kind : Kind) (instance solution : List ℕ) (problem : Instance) (plan : Solution) (verdict : Verdict) : Type 0 where
   pub problem_spelled : SpellsInstance kind instance problem
   pub problem_kept : IsInstance problem
@@ -42,7 +42,7 @@ answer_of (BadInstance fault) = refused_answer (codes "instance") (instance_name
 answer_of (BadSolution fault) = refused_answer (codes "solution") (solution_names.kind_name fault.kind) fault.line
 answer_of (Judged problem plan verdict) = verdict_answer verdict
 
--- If both texts spell a value, the verdict is that on the two.
+-- If both texts can be read, the verdict is that on the problem and the solution.
 abbrev pub HasVerdict : Examination → Type 0
 HasVerdict (BadInstance fault) = Unit {0}
 HasVerdict (BadSolution fault) = Unit {0}
@@ -50,7 +50,7 @@ HasVerdict (Judged problem plan verdict) = IsSolutionVerdict problem plan verdic
 
 -- ---- The routes only
 
--- Both texts spell a value, and this is the verdict on the routes.
+-- Both texts can be read, and this is the verdict on the routes.
 pub record AreRoutesJudged (kind : Kind) (instance text : List ℕ) (problem : Instance) (plan : Solution) (verdict : Verdict) : Type 0 where
   pub problem_spelled : SpellsInstance kind instance problem
   pub problem_kept : IsInstance problem

@@ -42,7 +42,7 @@ RestsOn kind instance solution (BadInstance fault) text = text ≡ instance_faul
 RestsOn kind instance solution (BadSolution fault) text = RestsOnFault kind instance solution fault text
 RestsOn kind instance solution (Judged problem plan verdict) text = text ≡ verdict_text problem plan verdict
 
--- The answer for two examined texts, of the solution or only of its routes, with its explanation.
+-- The answer to the audit of a solution, or only of its routes, with its explanation.
 pub record IsExplanation (routes_alone : Bool) (kind : Kind) (instance solution : List ℕ) (explanation : Explanation) : Type 0 where
   pub examined : Examination
   pub is_examined : IsExaminedBy routes_alone kind instance solution examined

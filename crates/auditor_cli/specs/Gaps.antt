@@ -20,24 +20,26 @@ percent_text n = decimal (n / 100) ++ places_text (n % 100)
 abbrev pub places : List ℕ
 places = 10 ∷ 100 ∷ 1000 ∷ 10000 ∷ 100000 ∷ 1000000 ∷ 10000000 ∷ 100000000 ∷ 1000000000 ∷ []
 
--- the best-known distance ends in zeros at this place, and the shorter distance rounds up to it there
+-- the best-known distance is a multiple of `place`, and the shorter distance, rounded to such a multiple, is
+-- equal to it
 abbrev pub is_rounded_to : ℕ → ℕ → ℕ → Bool
 is_rounded_to difference best place = (best % place == 0) && nat_le (2 * difference) place
 
--- the difference rounds to 0 hundredths, and it disappears if the distance is rounded to a place where the
--- best-known distance ends in zeros
+-- the difference rounds to 0 hundredths, and the shorter distance rounds to the best-known one
+-- (`is_rounded_to`)
 abbrev pub is_shown_as_zero : ℕ → ℕ → Bool
 is_shown_as_zero difference best = (hundredths difference best == 0) && list_any (is_rounded_to difference best) places
 
--- the gap of a shorter distance, with a minus however small it is
+-- the text for a distance shorter than the best-known one: a gap with a minus, however small it is, unless it
+-- is shown as 0.00
 abbrev pub shorter_text : ℕ → ℕ → List ℕ
 shorter_text difference best = if is_shown_as_zero difference best then codes " gap 0.00" else codes " gap -" ++ percent_text (hundredths difference best)
 
--- the gap of a distance
+-- the text for the gap between a distance and the best-known one
 abbrev pub gap_text : ℕ → ℕ → List ℕ
 gap_text distance best =
     if nat_lt distance best then shorter_text (best - distance) best else codes " gap " ++ percent_text (hundredths (distance - best) best)
 
--- the number of vehicles more or fewer
+-- the text for the difference in vehicles
 abbrev pub vehicles_text : ℕ → ℕ → List ℕ
 vehicles_text vehicles best = if nat_lt vehicles best then codes " vehicles -" ++ decimal (best - vehicles) else codes " vehicles +" ++ decimal (vehicles - best)

@@ -139,8 +139,8 @@ fn is_allowed(stages: &[ServeResult], stopped: &ServeResult) -> bool {
     })
 }
 
-// Returns whether the search of 600 steps was interrupted at the end of one of its operations: as many
-// operations as have answers, or one more.
+// Returns whether the search of 600 steps was interrupted at the end of one of its operations: the last one
+// that was answered, or the next one.
 fn is_within_search(stopped: &ServeResult) -> bool {
     [
         (0usize, "\nsteps 256 "),

@@ -9,7 +9,7 @@ use move_ops::marks;
 use plan_types::{OutOfMemory, Problem, Request, Route, numbers_are_below_next_number};
 use std::alloc::Global;
 
-/// Returns the names of the requests without a stop in any route, in ascending order. Its time is linear in the
+/// Returns the names of the requests without a stop in any route, in ascending order. Takes time linear in the
 /// problem and the routes.
 pub fn unplanned_names(
     alloc: Global,

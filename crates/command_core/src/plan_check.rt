@@ -1,7 +1,7 @@
 //! Checks that a plan from elsewhere passes with the pins of a job, without allocating.
 //!
-//! The auditor allocates a table of the first position of each stop, but `check` may not allocate. So each stop is compared
-//! with all later ones, in quadratic time.
+//! The auditor allocates a table of the first position of each stop, but `check` may not allocate. So each stop
+//! is compared with all later ones, in quadratic time.
 ghost use Rattle.std.specs.Prelude.{◌≡◌, ◌++◌, ◌&&◌, All, is_some};
 ghost use Rattle.std.specs.List.{concat, list_all};
 ghost use Rattle.plan_types.specs.Instance.{stop_at};

@@ -65,7 +65,7 @@ impl Planner {
     ///
     /// # Errors
     ///
-    /// Those of `apply`. The state is then unchanged.
+    /// Fails like `apply`. The state is then unchanged.
     pub fn change(&mut self, alloc: Global, command: &Command) -> Result<Change, Refusal>
         ensures ok { IfOk result (λ before. IsChanged self.old command.now before self.new) }
         ensures err { IfErr result (λ r. (refusal self.old command.now ≡ Some r)

@@ -202,7 +202,7 @@ parsed_audits (kind ∷ list ∷ []) = audits_from (kind_named kind) list None
 parsed_audits (kind ∷ list ∷ last ∷ []) = audits_from (kind_named kind) list (Some last)
 parsed_audits _ = None
 
--- A deviation in digits only, or none.
+-- A deviation, in digits only, or `None` if this argument is missing.
 abbrev pub deviation_or_none : Option Text → Option (Option ℕ)
 deviation_or_none None = Some None
 deviation_or_none (Some word) = option_map (λ d. Some d) (below (max_deviation + 1) (digits_of word))
@@ -291,7 +291,7 @@ parsed_timetable (kind ∷ instance ∷ solution ∷ []) = timetable_from kind i
 parsed_timetable (kind ∷ instance ∷ solution ∷ last ∷ []) = timetable_from kind instance solution (Some last)
 parsed_timetable _ = None
 
--- The number of a route in digits only, or none.
+-- The number of a route, in digits only, or `None` if this argument is missing.
 abbrev pub route_or_none : Option Text → Option (Option ℕ)
 route_or_none None = Some None
 route_or_none (Some word) = option_map (λ n. Some n) (below (2 ^ 32) (digits_of word))

@@ -1,7 +1,8 @@
 -- The headline of serving. A crash at any moment, with any choice that the device allows, recovers to the state
--- after a prefix of the kept operations. This prefix has every acknowledged operation and at most one more, and
--- the kept operations are a prefix of those that the input requests. The recovered plan passes the auditor, and
--- costs no more than any incumbent since the last change of requests or pins.
+-- after a prefix of the kept operations: those executed, and the one during which the device failed, if any.
+-- This prefix has every acknowledged operation and at most one more, and the kept operations are a prefix of
+-- those that the input requests. The recovered plan passes the auditor, and costs no more than any incumbent
+-- since the last change of requests or pins.
 use Rattle.std.specs.Prelude.{◌≡◌, ℕ, false, List, ◌++◌, Result, Ok, Err, ⊤}
 use Rattle.command_types.specs.declared.commands.Command.{Command}
 use Rattle.command_types.specs.declared.states.State.{State}
@@ -32,9 +33,9 @@ requested_commands reading session pieces fates = (served reading (as_server_sta
 abbrev pub requested_by : {D : Type 0} → Reading → SessionValue D → List Piece → List Act → List Command
 requested_by reading session pieces acts = requested_commands reading session pieces (without_failures (fates_of acts))
 
--- The conclusion. The operations that these acts kept are a prefix of those that the input requests. The
--- recovered state is the one after a prefix of the kept operations, with all that were acknowledged when m
--- calls had finished, and at most one more.
+-- The conclusion of the headline. The kept operations of these acts are a prefix of those that the input
+-- requests. The recovered state is the one after a prefix of the kept operations, which has all operations that
+-- were acknowledged when m calls had finished, and at most one more.
 abbrev pub RecoversPrefixOf : {D : Type 0} → Reading → SessionValue D → List ℕ → List Act → ℕ → Result State StoreFault → Type 0
 RecoversPrefixOf reading old input acts m outcome =
     IsPrefixOf (kept_of acts) (requested_by reading old (pieces_of input) acts)

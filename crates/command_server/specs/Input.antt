@@ -68,7 +68,8 @@ module _ {R : Type 0} (on : sources.Ghosts R) where
   abbrev pub left_of : InputKnowledge → Input → R → Option (List ℕ)
   left_of how input reader = prepend_known input.ahead (left_by on how reader)
 
-  -- For both kinds of knowledge about the input, this holds for its rest before and after.
+  -- For both kinds of knowledge about the input, `Holds` relates the rest of the input before to the rest
+  -- after.
   abbrev pub Between : Input → R → Input → R → (Option (List ℕ) → Option (List ℕ) → Type 0) → Type 0
   Between old before new later Holds = (how : InputKnowledge) → Fits on how later → Holds (left_of how old before) (left_of how new later)
 

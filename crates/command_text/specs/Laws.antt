@@ -49,14 +49,14 @@ StagesMayBeCut = (from to : ℕ) (j : JobValue) (count : ℕ) → let mid = afte
 abbrev pub state_after_steps : StepRequest → State → List Fate → State
 state_after_steps goal state fates = (steps_or_refusal (unbroken_session state fates) (steps_to_make state goal)).left.state
 
--- The command `anneal FROM TO` may be cut off by any fates of its attempts. If it is repeated and no attempt
--- fails then, it ends in the state of the uninterrupted command.
+-- The command `anneal FROM TO` may be cut short, whatever the fates of its attempts are. If the command is then
+-- repeated and no attempt fails, it ends in the state of the uninterrupted command.
 abbrev pub StagedLinesMayBeCut : Type 0
 StagedLinesMayBeCut = (from to : ℕ) (state : State) (fates : List Fate) → to ≤ 2 ^ 60
     → state_after_steps (goal.Stages from to) (state_after_steps (goal.Stages from to) state fates) [] ≡ state_after_steps (goal.Stages from to) state []
 
--- The command `reach N` may be cut off by any fates of its attempts. If it is repeated and no attempt fails
--- then, it ends in the state of the uninterrupted command.
+-- The command `reach N` may be cut short, whatever the fates of its attempts are. If the command is then
+-- repeated and no attempt fails, it ends in the state of the uninterrupted command.
 abbrev pub ReachedLinesMayBeCut : Type 0
 ReachedLinesMayBeCut = (n : ℕ) (state : State) (fates : List Fate) → n ≤ 2 ^ 60
     → state_after_steps (goal.Reach n) (state_after_steps (goal.Reach n) state fates) [] ≡ state_after_steps (goal.Reach n) state []

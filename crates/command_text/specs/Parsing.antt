@@ -65,7 +65,7 @@ add1_of q a = option_and_then (λ q. option_map (λ a. command.Add1 q a) a) (as_
 abbrev pub pin_of : Field → Field → Option Command
 pin_of v k = option_and_then (λ v. option_map (λ k. command.Pin v k) (as_u32 k)) (as_u32 v)
 
--- A request for steps if its numbers are within their limits, else Range.
+-- A request for steps if its numbers are within their limits, else the refusal `Range`.
 abbrev pub steps_or : Option StepRequest → ParsedCommand
 steps_or None = Refused Range
 steps_or (Some g) = Steps g

@@ -1,5 +1,5 @@
--- Plans of some of the vehicles, and of all of them again. Vehicles count from 1. A list of marks says for each
--- vehicle in turn whether a plan has it.
+-- A plan for a part of the fleet, made from a plan for the whole fleet, and a plan for the whole fleet made
+-- from it again. Vehicles count from 1. A list of marks says for each vehicle whether the part has it.
 use Rattle.std.specs.Prelude.{ℕ, ◌-◌, nat_lt, not, ◌==◌, ◌&&◌, ◌||◌, Bool, true, false, List, [], ◌∷◌, length, take, map, filter, count_by, slice_index_or}
 use Rattle.std.specs.List.{range_with_len}
 use Rattle.plan_types.specs.Instance.{Instance}
@@ -24,7 +24,7 @@ picked (true ∷ kept) (l ∷ lists) = l ∷ picked kept lists
 picked (false ∷ kept) [] = picked kept []
 picked (false ∷ kept) (l ∷ lists) = picked kept lists
 
--- the lists at the numbers of the marked vehicles; the others have no stop
+-- the lists, each at the number of its marked vehicle; the lists of the other vehicles are empty
 abbrev pub put_back : List Bool → List (List ℕ) → List (List ℕ)
 put_back [] lists = []
 put_back (true ∷ kept) [] = [] ∷ put_back kept []

@@ -308,9 +308,8 @@ fn cheaper(problem: &Problem, found: Plan, plan: Plan) -> Plan
     }
 }
 
-// Returns how many vehicles the next attempt leaves out: half as many as before if this attempt failed,
-// otherwise as many. An attempt fails if it starts from a plan without unplanned requests and its own plan has
-// some.
+// Returns how many vehicles the next attempt leaves out: half of `size` if this attempt failed, otherwise
+// `size` again. An attempt fails if it starts from a plan without unplanned requests and its own plan has some.
 fn next_size(problem: &Problem, whole: bool, size: u64, found: &Plan) -> u64
     requires { IsPlan problem.now found.now.routes }
     ensures { result ≡ (if whole && not (serves_all problem.now found.now.routes)

@@ -1,4 +1,4 @@
--- The lines that are read, from the lines of a text.
+-- The lines of a text that are read: all except the blank ones.
 use Rattle.std.proofs.Common.{◌≡◌, ℕ, ◌+◌, true, false, cond, List, [], ◌∷◌, refl, ap}
 use Rattle.text_lines.specs.Words.{is_blank_line}
 use Rattle.instance_read.specs.Rows.{rows_from}

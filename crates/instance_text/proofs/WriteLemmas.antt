@@ -22,7 +22,8 @@ customers_next n [] (suc i) = refl
 customers_next n (e ∷ es) zero = refl
 customers_next n (e ∷ es) (suc i) = customers_next n es i
 
--- the stop with the first number, and those after it
+-- the lines of the stops from number n on are the line of stop n, if there is such a stop, and the lines of
+-- those after it
 module _ (p : Instance) (line : Stop → List ℕ) where
   one_more : (o : Option Stop) (ss : List Stop) → lines_text (map line (cons_option o ss)) ≡ lines_text (map line (cons_option o [])) ++ lines_text (map line ss)
   one_more None ss = refl

@@ -58,7 +58,7 @@ abbrev pub lilim_lines : Instance → List (List ℕ)
 lilim_lines p = header_line p ∷ map (row_line p Task) (visits p)
 
 -- ---- CVRPLIB's format
--- the lines that are the same in each text, and two keys
+-- the lines that are the same in each text, and the keys of the two lines that end with a number
 unfoldable pub heading_text : Heading → List ℕ
 heading_text Name = codes "NAME : planner"
 heading_text ProblemType = codes "TYPE : CVRP"
@@ -73,7 +73,7 @@ heading_text End = codes "EOF"
 abbrev pub key_line : Heading → ℕ → List ℕ
 key_line key n = heading_text key ++ decimal n
 
--- the keys; the depot is a node too
+-- the lines before the sections; the dimension counts the depot too
 abbrev pub head_lines : Instance → List (List ℕ)
 head_lines p =
     heading_text Name ∷ heading_text ProblemType ∷ key_line Dimension (length p.requests + 1)

@@ -105,8 +105,8 @@ module _ (p : Instance) (routes : List (List ℕ)) (r : Request) where
     pub opens : opens p.kind (route_of routes x.0) ≡ o
     pub added : pos (route_length p (new_route x)) ≡ pos (route_length p (route_of routes x.0)) +ℤ d
 
-  -- a is no worse than b: it opens fewer vehicles; or as many and it adds less; or as much and its place is no
-  -- later
+  -- insertion x is no worse than y: it opens fewer vehicles; or equally many, and it adds less distance; or
+  -- also the same distance, and its place is no later
   abbrev pub Ahead : Insertion → Bool → ℤ → Insertion → Bool → ℤ → Type 0
   Ahead x a d y b e = ((a ≡ false) × (b ≡ true)) ⊎ ((a ≡ b) × ((d <ℤ e) ⊎ ((d ≡ e) × (is_no_later x y ≡ true))))
 

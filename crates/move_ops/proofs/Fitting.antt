@@ -224,7 +224,7 @@ module _ (found : NamedRequestsAreFound) (stand : RequestsAreStoredByName) (p : 
     pickup_own : (n : ℕ) → 1 ≤ times n (numbers_of r) → pickup_at p n ≡ pickup_in n r
     pickup_own n some = (found p n name r valid named (in_numbers n r some)).pickup
 
-    -- no stop of the old route has its pickup in the request
+    -- no stop of the old route has a stop of the request as its pickup
     apart : (n m : ℕ) → 1 ≤ times n old → 1 ≤ times m (numbers_of r) → pickup_at p n ≡ Some m → ⊥
     apart n m here own is =
         let partner = pickup_partner n m is in

@@ -93,7 +93,7 @@ none_anywhere n (x ∷ xs) none = elim (eqb_tells n x) [
   | inr t ↦ (let e = none_here n x t.0 in let rest : list_any (nat_eq n) xs ≡ false = rw t.0 at none in let h = none_anywhere n xs rest in omega arith)
 ]
 
--- how often number n occurs in all routes, of which one is replaced
+-- how often number n occurs in all routes after one of them is replaced
 pub times_replaced : (n : ℕ) (routes : List (List ℕ)) (k : ℕ) (old new : List ℕ) → slice_get routes k ≡ Some old
     → times n (concat (set routes k new)) + times n old ≡ times n (concat routes) + times n new
 times_replaced n [] k old new at = absurd (none_some old at)

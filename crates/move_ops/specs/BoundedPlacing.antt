@@ -4,7 +4,7 @@ use Rattle.plan_types.specs.Instance.{Instance}
 use Rattle.route_sched.specs.Cost.{cost_of}
 use Rattle.move_ops.specs.Drafts.{placed}
 
--- the other plan leaves as many requests out or more, uses more vehicles, or has a distance that is greater by
+-- the other plan leaves at least as many requests out, uses more vehicles, or has a distance that is greater by
 -- at least `below`
 abbrev pub IsFar : Instance → List (List ℕ) → List (List ℕ) → ℤ → Type 0
 IsFar p routes other below =

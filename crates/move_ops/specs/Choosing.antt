@@ -144,13 +144,14 @@ pub record IsEntryWithStops (routes : List (List ℕ)) (entries : List (ℕ × C
 abbrev pub IsEntryOrUpTo : List (List ℕ) → List (ℕ × Course) → ℕ → ℕ → Type 0
 IsEntryOrUpTo routes entries k v = ((1 ≤ v) × (v ≤ k)) ⊎ IsEntryWithStops routes entries (length entries) v
 
--- the bound that the added distance of an insertion at vehicle v must be below, to be better than an insertion
--- that opens as many vehicles: of equal ones, the one at the lower vehicle is better
+-- the bound below which the added distance of an insertion at vehicle v has to be, for the insertion to be
+-- better than f, if both open equally many vehicles: if both add the same distance, the one at the lower
+-- vehicle is better
 abbrev pub bound_against : ℕ → Candidate → ℤ
 bound_against v f = if nat_lt v f.vehicle then f.addition.distance +ℤ pos 1 else f.addition.distance
 
--- the bound that the added distance of an insertion must be below, to be better than a rival that adds d (each
--- may open a vehicle), or `None` if it can't be better
+-- the bound below which the added distance of an insertion has to be, for the insertion to be better than a
+-- rival that adds d (each may open a vehicle), or `None` if it can't be better
 abbrev pub bound_over : Bool → ℤ → Bool → Option ℤ
 bound_over rival d o = if rival && not o then Some (pos 9223372036854775807) else if o && not rival then None else Some d
 

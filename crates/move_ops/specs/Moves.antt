@@ -17,7 +17,7 @@ is_movable pins routes r = is_planned routes r && not (is_planned pins r)
 abbrev pub is_movable_name : Instance → List (List ℕ) → List (List ℕ) → ℕ → Bool
 is_movable_name p pins routes name = option_map_or (is_movable pins routes) (request_named p name) false
 
--- the stop is one of a named request
+-- the stop belongs to one of the named requests
 abbrev pub is_of_named : Instance → List ℕ → ℕ → Bool
 is_of_named p names n = option_map_or (has names) (name_at p n) false
 

@@ -14,8 +14,8 @@
 //! - `lists`, `insert`, `removal`, `swap`: routes and pins by vehicle, and the stops of new routes.
 //! - `pairing`, `tour`, `tours`, `changes`: a route with its table, and the checks of a new route.
 //! - `savings`: the greatest saving that an inserted request can bring.
-//! - `vehicle_hints`, `naming`: the vehicle to look at first for a stop, marks at the stops of routes, and the request
-//!   of a name.
+//! - `vehicle_hints`, `naming`: the vehicle to look at first for a stop, marks at the stops of routes, and the
+//!   request of a name.
 //! - `max_demands`: the greatest demand that a single may have in each vehicle.
 //! - `facts`: a fact about a problem for callers that only pass it on.
 //! - `tables`: the best insertion.

@@ -452,8 +452,8 @@ fn bound_over(rival_opens: bool, distance: i64, opens: bool) -> Option<i64>
     Some(distance)
 }
 
-// Returns the bound that the added distance of an insertion at this vehicle must be below to beat one that
-// opens as many vehicles.
+// Returns the bound below which the added distance of an insertion at this vehicle has to be, for the insertion
+// to be better than `best`, if both open equally many vehicles.
 #[inline(always)]
 fn bound_at(vehicle: u64, best: &Candidate) -> i64
     requires { best.now.addition.distance <ℤ pos 9223372036854775807 }

@@ -36,7 +36,7 @@ pub(crate) fn tours_of(
     Ok(tours)
 }
 
-/// Returns by stop number the vehicle to look at first for the stops of these tours.
+/// Returns the vehicle hints for these tours: for each stop number, the vehicle to look at first.
 pub(crate) fn vehicle_hints_of(
     alloc: Global,
     tours: &[Tour],

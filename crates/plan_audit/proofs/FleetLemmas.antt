@@ -179,7 +179,7 @@ beyond_found left k (x ∷ xs) m is =
           count = omega arith;
         }
 
--- if no route is beyond the number of vehicles, no more routes are used
+-- if no used route is beyond the number of vehicles, there are no more used routes than vehicles
 pub used-within : (left k : ℕ) (rs : List (List ℕ)) → first_route_beyond left k rs ≡ None → used_count rs ≤ left
 used-within left k [] is = omega arith
 used-within left k (r ∷ rs) is = by (eqb (length r) 0) refl (eqb_tells left 0) (λ h. used-within left (k + 1) rs h) (λ h. used-within (left - 1) (k + 1) rs h)

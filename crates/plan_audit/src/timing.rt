@@ -1,7 +1,8 @@
 //! Rules 6 to 8, on loads and times. Each is a pass along a route that allocates nothing.
 //!
-//! Routes that keep all three rules need only one pass: `cost_within_limits` checks each visit and sums the distances.
-//! If it returns `None`, the rules are checked one after another, so that the first violation is reported.
+//! Routes that keep all three rules need only one pass: `cost_within_limits` checks each visit and sums the
+//! distances. If it returns `None`, the rules are checked one after another, so that the first violation is
+//! reported.
 ghost use Rattle.std.specs.Prelude.{◌≡◌, ℕ, ◌^◌, ◌<◌, ◌+◌, Bool, IfSome, All, length};
 ghost use Rattle.route_sched.specs.Cost.{cost_of, unplanned_count};
 ghost use Rattle.route_sched.specs.Limits.{is_too_late, exceeds_capacity};

@@ -14,7 +14,7 @@ use Rattle.plan_explain.specs.declared.summaries.Summary.{Summary}
 abbrev pub waiting_time : Row → ℕ
 waiting_time r = r.start - r.arrival
 
--- the waiting time at all places
+-- the total waiting time at the places of a route
 abbrev pub waiting : Instance → List ℕ → ℕ
 waiting p route = sum_by waiting_time (rows_of p route)
 

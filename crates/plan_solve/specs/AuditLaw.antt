@@ -12,8 +12,8 @@ use Rattle.instance_read.specs.Readings.{SpellsInstance}
 use Rattle.plan_solve.specs.Solved.{IsSolved}
 use Rattle.plan_solve.specs.declared.solver.SolvedPlan.{SolvedPlan}
 
--- Both texts spell a value, and the verdict on them is to pass. So the solution is sound, serves each request,
--- uses no more vehicles than there are, and prints its distance.
+-- Both texts can be read, and the verdict is `Pass`. So the solution is sound, serves each request, uses no
+-- more vehicles than there are, and prints its distance.
 pub record PassesAudit (kind : Kind) (instance solution : List ℕ) : Type 0 where
   pub problem : Instance
   pub problem_spelled : SpellsInstance kind instance problem

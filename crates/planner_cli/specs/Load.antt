@@ -68,7 +68,7 @@ module _ {D X : Type 0} (on : sectors.Ghosts D) where
       MatchResult opening (λ opened. (device : D) × (left ≡ Some device) × LoadsSession opened.session command before after device reported)
       (λ unopened. IsLeftOnFailure on unopened left × PrintsText (open_failure_line path unopened) (open_failure_status unopened) before.contents after.contents reported)
 
--- The requests for store files, before and after.
+-- The requests for store files so far, before `load` and after it.
 pub record DiskRequests : Type 0 where
   pub was : List FileRequestEntry
   pub now : List FileRequestEntry

@@ -72,8 +72,8 @@ format_fault_status format.TooSmall = 2
 format_fault_status format.DeviceFault = 3
 format_fault_status format.OutOfMemory = 4
 
--- `ok` is printed for a store that was made, after this number of calls in all; or the line of the fault is
--- printed.
+-- `ok` is printed for a store that was made, when this number of device calls had finished; or the line of the
+-- fault is printed.
 abbrev pub PrintsFormatResult : {T E : Type 0} → (FormatFault → List ℕ) → Result T FormatFault → ℕ → Stream → Stream → Result ℕ E → Type 0
 PrintsFormatResult line_of made calls before after reported =
     MatchResult made (λ done. PrintsOk calls before after reported)
@@ -101,8 +101,8 @@ denial_status denial.DeviceFault = 3
 denial_status denial.OutOfMemory = 4
 denial_status _ = 2
 
--- `ok` is printed for a command that the session executed, after this number of calls in all; or the reason why
--- it was denied is printed, with its status.
+-- `ok` is printed for a command that the session executed, when this number of device calls had finished; or
+-- the reason why it was denied is printed, with its status.
 abbrev pub PrintsAnswer : {T E : Type 0} → (Denial → ℕ) → Result T Denial → ℕ → Stream → Stream → Result ℕ E → Type 0
 PrintsAnswer status_of answer calls before after reported =
     MatchResult answer (λ done. PrintsOk calls before after reported)

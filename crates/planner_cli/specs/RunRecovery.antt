@@ -1,8 +1,8 @@
 -- The main law of `run`. Let it crash at any moment since the device was passed to it, whatever the device
--- keeps. Opening the device then recovers the state after a prefix of the commands that the run kept, with
--- every acknowledged command and at most one more. The kept commands are a prefix of those that the input
--- requests. The plan of that state passes the audit, and it costs no more than any incumbent since the last
--- change of requests or pins.
+-- keeps. Opening the device then recovers the state after a prefix of the kept commands, with every
+-- acknowledged command and at most one more. The kept commands are those executed, and the one during which the
+-- device failed, if any. They are a prefix of those that the input requests. The plan of that state passes the
+-- audit, and it costs no more than any incumbent since the last change of requests or pins.
 use Rattle.std.specs.Prelude.{◌≡◌, ◌≤◌, ℕ, Bool, List, [], ◌∷◌, ◌++◌, length, Result}
 use Rattle.std.specs.List.{AllByRecursion}
 use Rattle.checkpoint.specs.declared.faults.StoreFault.{StoreFault}

@@ -35,7 +35,7 @@ use std::io;
 use std::io::{ErrorKind, Write};
 
 /// Reads an instance and loads it into the store in a file, which is made if there is none. Prints the answer.
-/// If the instance names a limit that is ignored, prints that on `errors` first.
+/// If the instance names a limit that is ignored, prints a note on `errors` first.
 pub(crate) fn load_instance<
     F: ReadFiles,
     R,

@@ -23,7 +23,7 @@ use std::io::Write;
 use text_lines::Lines;
 
 /// Reads a list, and solves the instance of each line into the new file that the line names. Returns the worst
-/// status. If an instance names a limit that is ignored, prints that on `errors`.
+/// status. Prints a note on `errors` for each instance that names a limit that is ignored.
 pub(crate) fn solve_list<F: ReadFiles, N: WriteFiles, W: Write, E: Write>(
     alloc: Global,
     tasks: SolvesArgs,
@@ -146,8 +146,8 @@ impl Solver<'_> {
         }
     }
 
-    // Reads and solves the instance, and writes the plan to the path. If the instance names a limit that is
-    // ignored, prints that.
+    // Reads and solves the instance, and writes the plan to the path. Prints a note if the instance names a
+    // limit that is ignored.
     fn solve_file<F: ReadFiles, N: WriteFiles, W: Write, E: Write>(
         &self,
         instance: &str,

@@ -39,7 +39,8 @@ record GoesOn (begun : State) (commands : List Command) (acknowledged : ℕ) (re
   pub one_each : told_by links ≡ kept_by restarts runs
   pub linked : AreLinked given links last
 
--- The recovered commands, beginning with the first opening that succeeds.
+-- The first opening that succeeds recovers a state from an image that a crash may leave. The recovered commands
+-- of each run lead from this state to the last one.
 record Begins (first device : MemDevice) (restarts : List Restart) (runs : List (Result Run StoreFault)) (last : State) : Type 0 where
   pub image : List ℕ
   pub possible : MayLeave (memory first) image

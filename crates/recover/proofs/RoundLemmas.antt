@@ -90,7 +90,7 @@ all_faults (command ∷ commands) (reply ∷ replies) old new run below =
 all_faults [] (reply ∷ replies) old new run below = elim run [ ]
 all_faults (command ∷ commands) [] old new run below = elim run [ ]
 
--- At the end of a run each image has all acknowledged commands.
+-- Each image that a crash at the end of a run may leave recovers to a state with all acknowledged commands.
 pub images_at_the_end : (commands : List Command) (replies : List Reply) (old new : SessionValue MemDevice) → IsMemoryRun old commands replies new
     → Throughout (λ d. clock_of (memory d)) (λ d. MayHaveLeft (memory d)) old.device new.device (RunLeaves old.state commands replies)
     → (image : List ℕ) → MayLeave (memory new.device) image → RecoversToPrefix old.state (kept commands replies) (count_ok replies) image

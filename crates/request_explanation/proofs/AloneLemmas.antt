@@ -150,7 +150,7 @@ module _ (p : Instance) (route : List ℕ) (valid : IsInstance p) (numbered : (k
 
 -- ---- a request alone
 module _ (found : NamedRequestsAreFound) (stand : RequestsAreStoredByName) (p : Instance) (valid : IsInstance p) where
-  -- place k of a route is the stop whose number the route has at this place
+  -- item k of a route is the number of the stop at place k + 1, and at least 1
   abbrev pub StandsAt : List ℕ → ℕ → Type 0
   StandsAt route k = (1 ≤ (place p route (k + 1)).number) × (slice_get route k ≡ Some (place p route (k + 1)).number)
 

@@ -160,8 +160,8 @@ no_worse_both : (t u v : Trial) → no_worse t u → no_worse u v → no_worse t
 no_worse_both t u v =
     joined (is_overload t.violation) (excess_of t.violation) t.distance (is_overload u.violation) (excess_of u.violation) u.distance (is_overload v.violation) (excess_of v.violation) v.distance
 
--- A trial is no worse if it violates less than the least violation of the other, or no more with no longer
--- distance.
+-- A trial is no worse than another if it violates less than `least` and the other does not; or if it violates
+-- no more than `least`, the other no less, and its distance is no longer.
 pub by_miss : (t u : Trial) (least : Option LimitViolation) → violates_less t.violation least ≡ true → violates_less u.violation least ≡ false → no_worse t u
 by_miss t u least less_is more =
     joined (is_overload t.violation) (excess_of t.violation) t.distance (is_overload least) (excess_of least) u.distance (is_overload u.violation) (excess_of u.violation) u.distance
@@ -174,7 +174,7 @@ by_distance t u least no_more more longer =
     (by_way (is_overload t.violation) (excess_of t.violation) t.distance (is_overload least) (excess_of least) u.distance no_more longer)
     (by_way (is_overload least) (excess_of least) u.distance (is_overload u.violation) (excess_of u.violation) u.distance more (omega arith))
 
--- A late trial is no worse if its excess is at most that of the other, with no longer distance.
+-- A trial without overload is no worse than another if neither its excess nor its distance is greater.
 pub by_excess : (t u : Trial) → is_overload t.violation ≡ false → excess_of t.violation ≤ excess_of u.violation → t.distance ≤ u.distance → no_worse t u
 by_excess t u light most longer = of_kind (is_overload t.violation) (is_overload u.violation) light
   where

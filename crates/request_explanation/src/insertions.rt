@@ -250,8 +250,8 @@ pub(crate) fn violation_with(
     Some(violation)
 }
 
-/// Returns the violations up to the stop, inserted after the first `at` stops of the route, if `front` was
-/// found in these. `None` means not known.
+/// Returns the violations in the rows of the new route up to the stop, which is inserted after the first `at`
+/// stops. `front` has the violations in the rows of these. `None` means not known.
 pub(crate) fn violations_with(
     problem: &Problem,
     tour: &Tour<'_>,

@@ -83,7 +83,7 @@ fn best_pair(
     ensures { IfOk result (λ best. best
         ≡ best_trial problem.now route.now (Pair pickup.now delivery.now) kept) }
 {
-    // Both stops are at the end, so the stops before them are the route.
+    // Both stops are inserted at the end, so the whole route comes before them.
     let last = route.len() + 1;
     let whole = with_pair(alloc, route, pickup, delivery, last, last + 1)?;
     let stop = next_stop(problem, whole.as_slice(), route.len());

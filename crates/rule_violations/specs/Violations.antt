@@ -69,15 +69,15 @@ abbrev pub violations_from : {X : Type 0} → (ℕ → X → List Violation) →
 violations_from tell k [] = []
 violations_from tell k (x ∷ xs) = tell k x ++ violations_from tell (k + 1) xs
 
--- the violations at the places of route k, by a test
+-- the violations that a test finds at the places of route k
 abbrev pub violations_at_places : (ℕ → List ℕ → ℕ → ℕ → Option Violation) → ℕ → List ℕ → List Violation
 violations_at_places test k route = violations_from (λ i n. option_to_list (test k route i n)) 0 route
 
--- the violations in all routes, by a test
+-- the violations that a test finds in all routes
 abbrev pub violations_in_routes : (ℕ → List ℕ → ℕ → ℕ → Option Violation) → List (List ℕ) → List Violation
 violations_in_routes test routes = violations_from (violations_at_places test) 0 routes
 
--- tests of place i of route k with stop n
+-- tests of stop n at place i of route k
 abbrev pub stop_test : Instance → List (List ℕ) → Rule → ℕ → List ℕ → ℕ → ℕ → Option Violation
 stop_test p routes rule k route i n = stop_violation p routes rule (position_at k i) n
 

@@ -35,14 +35,14 @@ use Rattle.std.proofs.lemmas.List.{take_at, take-append-le, drop-drop, drop-appe
 use Rattle.std.proofs.lemmas.Bool.{cases_lt}
 use Rattle.sector_disk.specs.Image.{sector, written, Mixes}
 
--- A sector of the first of two parts.
+-- If sector i is inside the first of two joined lists, it is sector i of this list.
 pub sector_left : (i : ℕ) (xs ys : List ℕ) → 512 * i + 512 ≤ length xs → sector i (xs ++ ys) ≡ sector i xs
 sector_left i xs ys h =
     let begins : 512 * i ≤ length xs = omega arith in
     let rest : 512 ≤ length (drop (512 * i) xs) = simp length-drop (omega arith) in
     ap (take 512) (drop-append-le (512 * i) xs ys begins) ∙ take-append-le 512 (drop (512 * i) xs) ys rest
 
--- A sector after the first f sectors.
+-- If the first of two joined lists has f sectors, sector f + j of both is sector j of the second.
 pub sector_right : (f j : ℕ) (xs ys : List ℕ) → length xs ≡ 512 * f → sector (f + j) (xs ++ ys) ≡ sector j ys
 sector_right f j xs ys h =
     let at : 512 * (f + j) ≡ 512 * f + 512 * j = omega arith in

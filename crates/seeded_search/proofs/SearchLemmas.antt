@@ -254,8 +254,8 @@ module _ (p : Instance) (pins : List (List ℕ)) where
             cond_both (cost_at_most (cost_of p c) (cost_of p s.incumbent)) c s.incumbent
             (λ best. IsTrue (cost_at_most (cost_of p best) (cost_of p s.incumbent))) (λ t. t) (λ t. same_cost total (cost_of p s.incumbent))
 
--- a plan that is near and costs more has as many unplanned requests and vehicles, and at most the deviation more
--- distance
+-- a plan that is near and costs more has equally many unplanned requests and vehicles, and at most the
+-- deviation more distance
 near_apart : BelowIsAtMost → (deviation : ℕ) (a b : Cost) → is_near deviation a b ≡ true → cost_at_most a b ≡ false
     → (a.unplanned ≡ b.unplanned) × (a.vehicles ≡ b.vehicles) × (a.distance ≤ b.distance + deviation)
 near_apart below deviation a b near above = elim (or_cases (has_lower_counts a b) (has_equal_counts a b && nat_le a.distance (b.distance + deviation)) near) [

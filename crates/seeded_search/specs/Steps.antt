@@ -121,16 +121,17 @@ pub record SearchPlans : Type 0 where
 abbrev pub search_plans : List (List ℕ) → List (List ℕ) → SearchPlans
 search_plans incumbent working = record { incumbent = incumbent; working = working }
 
--- a has fewer unplanned requests, or as many and fewer vehicles
+-- a has fewer unplanned requests than b; or equally many, and fewer vehicles
 abbrev pub has_lower_counts : Cost → Cost → Bool
 has_lower_counts a b = nat_lt a.unplanned b.unplanned || ((a.unplanned == b.unplanned) && nat_lt a.vehicles b.vehicles)
 
--- a and b have as many unplanned requests and as many vehicles
+-- a and b have equally many unplanned requests and equally many vehicles
 abbrev pub has_equal_counts : Cost → Cost → Bool
 has_equal_counts a b = (a.unplanned == b.unplanned) && (a.vehicles == b.vehicles)
 
--- a plan of cost a may become the working plan when the incumbent costs b: it has fewer unplanned requests, or
--- as many and fewer vehicles, or as many of both and at most the deviation more distance
+-- a plan of cost a may become the working plan when the incumbent costs b: it has fewer unplanned requests; or
+-- equally many, and fewer vehicles; or equally many of both, and its distance is greater by at most the
+-- deviation
 abbrev pub is_near : ℕ → Cost → Cost → Bool
 is_near deviation a b = has_lower_counts a b || (has_equal_counts a b && nat_le a.distance (b.distance + deviation))
 

@@ -7,8 +7,8 @@ ghost use Rattle.seeded_search.specs.SearchStates.{IsOutlook};
 use plan_types::Cost;
 
 /// Returns whether a plan of this cost may become the working plan when the incumbent costs `best`. It may if
-/// it has fewer unplanned requests; or as many and fewer vehicles; or as many of both and at most `deviation`
-/// more distance.
+/// it has fewer unplanned requests; or equally many, and fewer vehicles; or equally many of both, and its
+/// distance is greater by at most `deviation`.
 pub fn is_near(deviation: u32, cost: &Cost, best: &Cost) -> bool
     ensures { result ≡ is_near deviation cost.now best.now }
 {
@@ -21,7 +21,7 @@ pub fn is_near(deviation: u32, cost: &Cost, best: &Cost) -> bool
     cost.distance.saturating_sub(best.distance) <= u64::from(deviation)
 }
 
-/// The threshold of a candidate: it has to be near a plan that costs `best`.
+/// The threshold for a candidate: its cost has to be near that of a plan, by `is_near`.
 #[derive(Clone, Copy)]
 pub struct Threshold<'a> {
     /// The greatest additional distance.
@@ -77,7 +77,7 @@ impl Threshold<'_> {
         }
     }
 
-    // Returns the bound that the distance added by the next request must be below, if later requests save at
+    // Returns the bound below which the distance added by the next request has to be, if later requests save at
     // most `rest`. Returns `None` if the numbers are too large.
     fn bound(&self, cost: &Cost, rest: u128) -> Option<i64>
         ensures { IfSome result (λ below. pos cost.now.distance +ℤ below

@@ -1,7 +1,7 @@
 //! Requests inserted into a draft one after another, each at its best place at that time.
 //!
-//! If the draft has to be near a plan, inserting stops as soon as that is impossible: the draft leaves too many
-//! requests unplanned, uses too many vehicles, or has too long a distance.
+//! If the draft has to pass a threshold, no more requests are inserted once that is impossible: the draft
+//! leaves too many requests unplanned, uses too many vehicles, or has too long a distance.
 //!
 //! An inserted request lowers the number of unplanned requests by at most one, the number of vehicles not at
 //! all, and the distance by at most 1 for each of its stops (`placements_save_little`). So if one more
@@ -37,8 +37,8 @@ pub fn place_all(
     Ok(())
 }
 
-/// Like `place_all`, but discards the draft as soon as it is known not to be near a plan with all of the
-/// requests. Returns whether all were inserted.
+/// Like `place_all`, but discards the draft as soon as it is known that it will not pass the threshold, even
+/// with all requests inserted. Returns whether the draft was completed.
 pub fn place_all_if_near(
     problem: &Problem,
     pins: &Pins,

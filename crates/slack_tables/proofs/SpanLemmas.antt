@@ -131,8 +131,8 @@ laden c places table = let long = table.long in record {
 
 -- ---- the distance that a stop adds
 module _ (places : List PlaceSlack) (depot : Stop) (span : Span) (is : IsSpan span places) (at_home : AreHome depot places) where
-  -- a lower bound on the distance that stops p and q add between place m and the next one, with this distance
-  -- between p and q
+  -- x is a lower bound on the distance that stops p and q add between place m and the next one, if the distance
+  -- from p to q is `between_stops`
   between-le : (p q : Stop) (to_p to_q : DistanceFloors) → AreDistanceFloors span depot p to_p → AreDistanceFloors span depot q to_q → (between_stops : ℕ) (x : ℤ)
       → IsFloorOfPair span to_p to_q between_stops x → (m : ℕ) (d : PlaceSlack) → m + 1 < length places
       → x ≤ℤ (pos

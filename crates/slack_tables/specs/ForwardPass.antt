@@ -22,7 +22,7 @@ pub record IsWithin (k : ℕ) (a : Progress) : Type 0 where
   pub load : unsigned_abs a.load ≤ k * 2 ^ 31
   pub distance : a.distance ≤ k * 2828427
 
--- place k of these stops after the forward pass
+-- the entry of place k after the forward pass over these stops
 pub record IsForwardRow (stops : ℕ → Stop) (k : ℕ) (e : PlaceSlack) : Type 0 where
   pub at : IsAt stops k e.at
   pub latest_start : e.latest_start ≡ 18446744073709551615
@@ -33,6 +33,6 @@ pub record IsForwardRow (stops : ℕ → Stop) (k : ℕ) (e : PlaceSlack) : Type
 abbrev pub AreForwardRows : (ℕ → Stop) → List PlaceSlack → Type 0
 AreForwardRows stops places = (k : ℕ) (d : PlaceSlack) → k < length places → IsForwardRow stops k (slice_index_or places k d)
 
--- each place before n is the place of these stops after the forward pass
+-- each entry before place n is as after the forward pass over these stops
 pub record AreForwardRowsTo (stops : ℕ → Stop) (n : ℕ) (places : List PlaceSlack) : Type 0 where
   pub each : (k : ℕ) (d : PlaceSlack) → k < n → k < length places → IsForwardRow stops k (slice_index_or places k d)

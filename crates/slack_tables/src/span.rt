@@ -10,8 +10,8 @@
 //!
 //! The bounds do not rely on the triangle inequality, so rounding does not invalidate them. Distances are
 //! bounded from below without a square root: by the greater of their components along two directions
-//! (`distance_lower_bound`), at most about 2 % too low, or faster by the longer side (`longer_side_between`), up to 30 % too
-//! low.
+//! (`distance_lower_bound`), at most about 2 % too low, or faster by the longer side (`longer_side_between`),
+//! up to 30 % too low.
 
 ghost use Rattle.std.specs.Prelude.{◌≡◌, ◌+◌, ◌*◌, ◌^◌, ◌≤◌, ◌<◌, ℕ, ℤ, pos, ◌+ℤ◌, ◌-ℤ◌, ◌≤ℤ◌, ◌<ℤ◌, ◌-◌, IsTrue, All, length, slice_index_or, unsigned_abs};
 ghost use Rattle.plan_types.specs.declared.requests.Stop.{Stop};

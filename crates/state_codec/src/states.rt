@@ -80,7 +80,7 @@ pub fn decode_state(alloc: Global, bytes: &[u8]) -> Result<State, CodecFault>
 ///
 /// # Errors
 ///
-/// Those of `decode_state`.
+/// Fails like `decode_state`.
 pub fn decode_state_v1(alloc: Global, bytes: &[u8]) -> Result<State, CodecFault>
     ensures decodes { Decodes One bytes.now result }
     ensures only { (state : State) → IsState state → IsStateOf One state

@@ -1,5 +1,5 @@
-//! The tests, in reading order: `builders` and `step_ranges` (shared by the examples), `moves`, `search`, `annealing`,
-//! `stages`, `fleet_reductions`, `commands`.
+//! The tests, in reading order: `builders` and `step_ranges` (shared by the examples), `moves`, `search`,
+//! `annealing`, `stages`, `fleet_reductions`, `commands`.
 
 mod annealing;
 mod builders;

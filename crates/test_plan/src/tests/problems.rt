@@ -137,7 +137,8 @@ fn first_pair(alloc: Global) -> Result<Problem, Fail> {
     Ok(problem)
 }
 
-/// A stop number of the first of two pairs, and the values found for it after the second pair was removed.
+/// A stop number, and the name, the partner and the pickup that are found for it after the second of two pairs
+/// was removed.
 const LEFT: [(u32, [u32; 3]); 4] = [
     (1, [1, 2, 0]),
     (2, [1, 1, 1]),
@@ -159,7 +160,8 @@ fn removes_no_other_request(rt: HostRuntime) -> Result<(), Fail> {
     Ok(())
 }
 
-// Returns the values found for number 4 after a stop was inserted with this number again.
+// Returns the name, the partner and the pickup that are found for number 4 after a single was inserted with
+// this number again.
 fn found_after_reuse(problem: &mut Problem) -> Result<[u32; 3], PutFault> {
     problem.put(single(4, (0, 0), 1, 100))?;
     Ok(found(problem, 4))

@@ -127,7 +127,7 @@ fn best_in(
 /// The problems of the examples.
 #[derive(Clone, Copy)]
 enum Fixture {
-    /// The direct leg to stop 3 takes 3, and its latest time is 2.
+    /// The direct leg to stop 3 takes 3, and the latest time of stop 3 is 2.
     TwoPairs,
     /// Without windows, the leg to stop 3 may take any time.
     TwoPairsInVrp,
@@ -276,9 +276,10 @@ fn are_best(reported: Option<(i64, [u64; 2])>, distance: i64, places: [u64; 2]) 
 
 type BestPlaces = (Fixture, &'static [u32], u32, u64, i64, i64, [u64; 2]);
 
-/// A request that is inserted after the first stops of a route for less than a given distance, the distance
-/// that it adds, and its places, 0 if it fits nowhere. On the line it fits on the way out and on the way back;
-/// the first fit after the kept stops counts.
+/// A problem, a route, a request, the number of stops to keep at the beginning of the route, and the bound on
+/// the added distance. Then the distance that the best insertion adds, and its places, or zeros if the request
+/// fits nowhere. In `LongLine` a request can fit both on the way out and on the way back; the first fit after
+/// the kept stops is the best.
 const BEST_PLACES: [BestPlaces; 17] = [
     (Fixture::TwoPairs, &[1, 2], 3, 0, 1000, 2, [2, 3]),
     (Fixture::TwoPairs, &[1, 2], 3, 0, 3, 2, [2, 3]),

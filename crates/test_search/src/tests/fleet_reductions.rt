@@ -1,4 +1,4 @@
-//! Attempts with fewer vehicles, by hand: from plans and pins that no command builds.
+//! Attempts with fewer vehicles, worked out by hand, from plans and pins that no command builds.
 ghost use Rattle.std.specs.Prelude.{◌≡◌, true, length};
 ghost use Rattle.plan_audit.specs.Passes.{passes};
 

@@ -1,4 +1,4 @@
-//! The stages of annealing, by hand: `annealing_schedule`.
+//! The stages of annealing (`annealing_schedule`), worked out by hand.
 
 use crate::tests::builders::{TestProblem, case_of, is_passing};
 use annealing_schedule::{boundary, hundredths, mean_leg_share, stage_of};

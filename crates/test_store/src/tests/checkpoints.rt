@@ -1,4 +1,4 @@
-//! Stores on a device: the contents after a format, a commit or a crash, or as written by hand.
+//! Stores on a device: their contents after a format, a commit or a crash, or contents written by hand.
 
 use crate::tests::builders::{
     LOADED_V1, SECTORS, empty_store, header, read_sector, sector_of, write_sector,

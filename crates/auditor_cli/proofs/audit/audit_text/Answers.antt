@@ -1,4 +1,5 @@
--- The answer for the values that were read is the answer for every pair of values that the texts spell.
+-- The answer for the problem and the solution that were read is the answer for every problem and solution that
+-- the texts spell.
 use Rattle.std.proofs.lemmas.Result.{IfOk-weaker}
 use Rattle.auditor_cli.proofs.SpelledLemmas.{judges_spelled, says_sound}
 use Rattle.auditor_cli.proofs.audit.audit_text.Goals as goal

@@ -1,4 +1,5 @@
--- The draft is the plan, so its best insertion of the request is the plan's best of the request's name.
+-- The draft has the routes of the plan, so its best insertion of the request is the plan's best insertion of
+-- the request with this name.
 use Rattle.std.proofs.Common.{rules, ◌∙◌, ℕ, List, ap}
 use Rattle.plan_types.specs.Request.{request_name}
 use Rattle.move_ops.specs.Insertion.{best_insertion}

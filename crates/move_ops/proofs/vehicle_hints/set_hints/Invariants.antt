@@ -1,5 +1,5 @@
--- A number whose hint is 0 had this hint before. It is among the stops exactly when it is among the remaining
--- ones, so at the end it is none of them.
+-- A number whose hint is still 0 had this hint at first, and it is among the stops exactly if it is among the
+-- remaining ones. So at the end it is none of the stops.
 use Rattle.std.proofs.Common.{◌≡◌, ℕ, Some, drop, length, slice_get}
 use Rattle.plan_audit.specs.Passes.{has}
 use Rattle.move_ops.proofs.vehicle_hints.set_hints.Given as goal

@@ -1,4 +1,5 @@
--- The violations before the stop and at it are those of the route with the stop, up to the stop.
+-- The violations in the rows before the inserted stop, followed by those at this stop, are those in the rows of
+-- the new route up to this stop.
 use Rattle.std.proofs.Common.{◌∙◌, ap, pos}
 use Rattle.plan_explain.specs.declared.rows.Row.{Row}
 use Rattle.request_explanation.specs.Insertions.{violations_then}

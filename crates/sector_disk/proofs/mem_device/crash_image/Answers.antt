@@ -1,5 +1,5 @@
--- Before the calls since the last sync a sector has one possible content. Each of these calls that writes to it
--- adds one. So the content put into it is the chosen one.
+-- Before the calls since the last sync, a sector has one possible content. Each of these calls that writes to
+-- the sector adds one more. So in the crash image, each sector has the chosen one of its possible contents.
 use Rattle.std.proofs.Common.{◌≡◌, ◌∙◌, ◌∷◌, [], ◌-◌, ◌/◌, ◌%◌, ℕ, List, length, map, take, drop, ap, sym, subst, arith}
 use Rattle.std.specs.Prelude.{slice_index, slice_index_or}
 use Rattle.std.specs.List.{flat_map, filter_map}

@@ -1,5 +1,5 @@
--- No place so far after the kept stops takes the pickup. The lower bound on the distance from the last of them
--- serves to check the next place.
+-- None of the places so far, after the kept stops, can take the pickup. The lower bound on the distance from
+-- the last of these places to the pickup serves to check the next place.
 use Rattle.std.proofs.Common.{◌^◌, ◌-◌, ◌<◌, ◌≤◌, get_or}
 use Rattle.nint_dist.specs.Distance.{distance}
 use Rattle.slack_tables.specs.ClosedPlaces.{AreClosed}

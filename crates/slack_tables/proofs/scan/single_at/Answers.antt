@@ -1,5 +1,5 @@
--- If a lower bound on the price reaches the bound, there is no price below it. Otherwise the distance that the
--- stop adds is what the single adds here.
+-- If a lower bound on the price is at least `below`, the price is too. Otherwise the price is computed: the
+-- distance that the single adds here.
 use Rattle.std.proofs.Common.{◌≡◌, ◌∙◌, ◌-◌, ◌≤ℤ◌, w64, rules, get_or, arith, subst, ap}
 use mir.Val.{SFits}
 use Rattle.std.proofs.lemmas.Int.{ints, to_z-of_z}

@@ -1,4 +1,5 @@
--- The result of the scan over the places of a table is the best insertion into each route with its course.
+-- The result of the scan over the places of a table is the best insertion into every route with the course of
+-- the table.
 use Rattle.std.proofs.Common.{◌∙◌, w64, to_z, of_z, Some, sym, ap, subst}
 use mir.Val.{SFits}
 use Rattle.std.proofs.lemmas.Int.{to_z-of_z}
