@@ -60,7 +60,7 @@ module _ (local : PassingIsLocal) (plans : PlansAreDisjointRoutes) (p : Instance
             (route_of routes u) r ≡ Some n) (sym same) second),
       )
 
--- A hint that is right
+-- A hint that is right names the place that has the stop
 pub seated : (routes : List (List ℕ)) (stop : ℕ) (seat : RoutePlace) → IsAtPlace routes stop seat → slice_get (route_of routes seat.vehicle) seat.place ≡ Some stop
 seated routes stop seat is = elim (slice_get_cases (route_of routes seat.vehicle) seat.place).1 [
   | inl there ↦ there.2 ∙ ap (λ n. Some n) (sym there.3 ∙ (get_or_default_zero (route_of routes seat.vehicle) seat.place there.0 there.1 ∙ is.1))

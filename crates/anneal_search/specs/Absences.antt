@@ -10,11 +10,11 @@ use Rattle.seeded_search.specs.Steps.{unplanned_names}
 abbrev pub is_left_out : Instance → List (List ℕ) → ℕ → Bool
 is_left_out p routes name = option_map_or (λ r. not (is_planned routes r)) (request_named p name) false
 
--- Those of the names whose requests have no stop in the plan
+-- The names in the list whose requests have no stop in the plan
 abbrev pub left_out : Instance → List (List ℕ) → List ℕ → List ℕ
 left_out p routes names = filter (is_left_out p routes) names
 
--- All requests that the plan leaves out are among these
+-- The list has the names of all requests that the plan leaves out
 abbrev pub HoldLeftOut : Instance → List (List ℕ) → List ℕ → Type 0
 HoldLeftOut p routes names = left_out p routes names ≡ unplanned_names p routes
 

@@ -16,7 +16,7 @@ use Rattle.anneal_search.specs.declared.routes.NearStop.{NearStop}
 use Rattle.anneal_search.specs.declared.strings.Cut.{Cut}
 use Rattle.anneal_search.specs.declared.search.Annealing.{Annealing}
 
--- The last one of a full list
+-- The last stop of the list, if the list is full
 abbrev pub limit_of : ℕ → List NearStop → Option NearStop
 limit_of count nears = if nat_lt (length nears) count then None else slice_get nears (length nears - 1)
 

@@ -26,7 +26,7 @@ impl From<String> for AuditLine {
 
     ghost from_gives = { λ text line. line ≡ string_bytes text };
 
-    /// Converts without allocating.
+    /// Converts a text into a line without allocating.
     fn from(text: String) -> AuditLine {
         AuditLine {
             bytes: text.into_bytes(),

@@ -23,7 +23,7 @@ use Rattle.sector_disk.specs.declared.sectors.Sectors as sectors
 abbrev pub as_server_state : {D : Type 0} → SessionValue D → List Fate → ServerState
 as_server_state s fates = record { state = s.state; is_broken = s.is_broken; fates = fates }
 
--- A reply with this text and these operations before it.
+-- The reply with this text before its own text, and these operations before its own operations.
 abbrev pub preceded : List ℕ → List Command → Reply → Reply
 preceded text commands r = record { text = text ++ r.text; commands = commands ++ r.commands; left = r.left }
 

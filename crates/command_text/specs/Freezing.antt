@@ -35,8 +35,8 @@ module _ (j : JobValue) where
 abbrev pub above : ℕ → ℕ → Option ℕ
 above low n = if nat_lt low n then Some n else None
 
--- The number of stops of vehicle v that are pinned at time t, if it is more than its pin has: the stops to
--- which it has departed, and as many more as it takes until they may be pinned.
+-- The new length of the pin of vehicle v at time t, if it is longer than the old pin: the smallest number of
+-- stops that may be pinned and that includes all stops to which the vehicle has departed.
 abbrev pub new_pin_len : ℕ → JobValue → ℕ → Option ℕ
 new_pin_len t j v =
     let pinned = length (route_of j.pins v) in
@@ -48,11 +48,11 @@ abbrev pub pinned_before : (JobValue → List Command) → ℕ → Option ℕ �
 pinned_before follows v None j = follows j
 pinned_before follows v (Some k) j = Pin v k ∷ follows (job_after j (Pin v k))
 
--- The pins of n vehicles, beginning with vehicle v.
+-- The operations that make the pins of n vehicles longer, beginning with vehicle v.
 unfoldable pub freeze_vehicles : ℕ → ℕ → ℕ → JobValue → List Command
 freeze_vehicles t v zero j = []
 freeze_vehicles t v (suc n) j = pinned_before (freeze_vehicles t (v + 1) n) v (new_pin_len t j v) j
 
--- The pins of vehicle v and all vehicles after it.
+-- The operations that make the pins of vehicle v and of all vehicles after it longer.
 abbrev pub freeze_commands : ℕ → ℕ → JobValue → List Command
 freeze_commands t v j = freeze_vehicles t v (j.problem.fleet + 1 - v) j

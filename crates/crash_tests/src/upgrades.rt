@@ -199,7 +199,7 @@ fn add_crash(
 }
 
 // Returns both devices after an upgrade that crashed with this choice after `calls` finished calls of the new
-// one.
+// device.
 fn crashed(alloc: Global, calls: u64, choice: u32) -> io::Result<(MemDevice, MemDevice)> {
     let choices = choices_of(alloc, &WRITTEN, choice)?;
     crashed_with(alloc, calls, &choices)

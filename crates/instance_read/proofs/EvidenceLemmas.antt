@@ -128,7 +128,7 @@ last_filled : (text : List ℕ) (rows after : List Row) → is_blank_line text �
 last_filled text [] after e h = e
 last_filled text (row ∷ rows) after e h = last_filled row.text rows after h.0 h.1
 
--- after another line, the numbers are those of a task
+-- if another line comes before, the numbers are those of a task
 after_line : (kind : ReadFaultKind) (words : List (List ℕ)) (text : List ℕ)
     → is_blank_line text ≡ false → row_evidence kind words text ≡ numbers_evidence kind task_fields task_limits words
 after_line kind words [] e = absurd (false≢true (sym e))

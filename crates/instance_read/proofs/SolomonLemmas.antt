@@ -31,7 +31,7 @@ module _ (end : ℕ) where
   pub cut_first : (due : List LineTest) → IsFirstFault (LinesFault end due []) (record { line = end; kind = Truncated })
   cut_first due = (OfText, (omega arith, refl), none_cases due)
 
-  -- facts about the first line of those before the depot
+  -- facts about the first of the lines before the depot
   module _ (test : LineTest) (due : List LineTest) (row : Row) (rows : List Row) where
     abbrev Here : Class → ℕ → ReadFaultKind → Type 0
     Here OfLine line kind = (row.line ≡ line) × (test (words_of row.text) kind ≡ true)

@@ -33,7 +33,7 @@ no_pin (Pair c d) kept n i j t =
     let less = ltb-true kept i a.0 in
     and_from (ltb 0 i) (ltb i j && leb j (n + 2)) (lt-ltb 0 i (omega arith)) a.1
 
--- a place after its pin is also one without a pin
+-- places that are after the pin of a route are also places in the route without a pin
 pub open_places : (pins routes : List (List ℕ)) (r : Request) (x : Insertion) → is_place_of pins routes r x ≡ true
     → are_places r 0 (length (route_of routes x.0)) x.1 x.2 ≡ true
 open_places pins routes r x place =

@@ -67,8 +67,8 @@ impl Candidate {
     }
 }
 
-/// The cost that an insertion must be below: opening a vehicle or not (`opens`), and adding `below` to the
-/// distance.
+/// A bound on an insertion: its cost must be below that of an insertion that opens a vehicle or not (`opens`)
+/// and adds `below` to the distance.
 #[derive(Clone, Copy)]
 pub(crate) struct Limit {
     pub opens: bool,
@@ -466,8 +466,8 @@ fn bound_at(vehicle: u64, best: &Candidate) -> i64
     }
 }
 
-// Returns a bound for the used vehicles from this one on. An insertion that adds as much or more is not better
-// than the best so far, or than the limit.
+// Returns a bound for the used vehicles from this one on. An insertion that adds at least this bound is not
+// better than the best so far, or than the limit.
 #[inline(always)]
 fn bound_from(limit: &Limit, best: &Option<Candidate>, vehicle: u64) -> i64
     requires { IsBelowMaximum best.now }

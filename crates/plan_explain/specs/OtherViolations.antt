@@ -22,7 +22,7 @@ places_text words found = form words (decimal (length found) ∷ []) ++ flat_map
 abbrev pub missing_stop_text : ℕ → List ℕ
 missing_stop_text n = form (codes "  stop @\n") (decimal n ∷ [])
 
--- how many stops there are, and at most 20 of them
+-- the number of these stops, and the first 20 of them
 unfoldable pub missing_text : List ℕ → List ℕ → List ℕ
 missing_text words stops = form words (decimal (length stops) ∷ []) ++ flat_map missing_stop_text (take 20 stops)
 

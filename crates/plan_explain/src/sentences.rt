@@ -32,7 +32,7 @@ fn put_unknown_stop(text: &mut TextBuffer, problem: &Problem, stop: u32)
     put_template(text, words, &[Short(stop), Short(problem.next_number)]);
 }
 
-/// An error of one in all stop numbers.
+/// A shift of all stop numbers by one.
 #[derive(Clone, Copy)]
 pub(crate) enum Shift {
     TooHigh,

@@ -1,7 +1,7 @@
 //! The subcommand `solves`: solves a list of instances, each into a file of its own.
 //!
-//! If a file already exists under the path of a solution, this is printed before the instance is read, so that
-//! no search is wasted. A plan is audited before it is written, so that its audit can always be printed.
+//! If a file already exists at the path of a solution, a line says so before the instance is read, so that no
+//! search is wasted. A plan is audited before it is written, so that its audit can always be printed.
 ghost use Rattle.std.specs.Prelude.{◌≤◌, IfOk};
 ghost use Rattle.command_line.specs.Invocations.{tasks_of};
 ghost use Rattle.auditor_cli.specs.Audits.{PrintsLine, PrintsLines};

@@ -35,7 +35,7 @@ one_acked m reply replies is = acked-cons m reply replies ∙ ap (λ (b : Bool).
 some_calls : (place : Place) (command : Command) → 1 ≤ calls_of place command
 some_calls place command = elim (is_snapshot_due place command) as (λ b. 1 ≤ (if b then 4 else 2)) [ true ↦ omega arith | false ↦ omega arith ]
 
--- A prefix of the first command is a prefix of all commands.
+-- An image that recovers to a prefix of the first command recovers to a prefix of all commands.
 early : (begun : State) (command : Command) (more : List Command) (few all : ℕ) (image : List ℕ) → all ≡ few
     → RecoversToPrefix begun (command ∷ []) few image → RecoversToPrefix begun (command ∷ more) all image
 early begun command more few all image same some =

@@ -33,8 +33,8 @@ pub fn runs_compose<D: Sectors>()
 
 /// Proves that after a crash of a run any number of openings may crash or be refused. The next opening still
 /// returns the state that the headline describes, since each possible image is one that was possible before
-/// these openings. If an opening was refused, but not because the device failed, the next one returns what it
-/// would have returned.
+/// these openings. If an opening was refused, but not because the device failed, the next one returns what the
+/// refused one would have returned without the refusal.
 pub fn crashed_openings_can_be_retried<D: Sectors, E: Sectors>()
     ensures over { HoldsAfterCrashedOpenings D.Sectors E.Sectors }
     ensures same { CrashedLeaveSameImages E.Sectors }

@@ -227,7 +227,7 @@ best_of (t ∷ ts) last e = let rest = best_is t last ts e in (not_better t last
 pub none_is_better : NoneIsBetter
 none_is_better p route r kept best e = best_of (trials p route r kept) best e
 
--- If the best trial is overloaded, every trial is, by no less.
+-- If the best trial is overloaded, every trial is overloaded by at least as much.
 as_heavy : (best t : Trial) → is_overload best.violation ≡ true → is_better t best ≡ false → (is_overload t.violation ≡ true) × (excess_of best.violation ≤ excess_of t.violation)
 as_heavy best t heavy fails =
     of_kind (is_overload best.violation) (is_overload t.violation) heavy

@@ -90,7 +90,7 @@ owned_le n s o rest h =
       | inr t ↦ rw t.0 (omega (arith, h))
     ]
 
--- the owner of a number has it among its own numbers
+-- a request that owns number n has n among its numbers
 owned_once : (n : ℕ) (e : ℕ × Request) → bit (owns n e) ≤ total (λ m. bit (eqb n m)) (numbers_of e.1)
 unfolding owns numbers_of
 owned_once n (a, Single s) = owned_le n s None 0 (omega arith)

@@ -25,7 +25,7 @@ pub record OneMore {T E : Type 0} (result : Result T E) (before after : ℕ) : T
   pub count : after ≡ calls_after result before
   pub last : before ≡ 2 ^ 64 - 1 → IsErr result
 
--- If all of n calls succeed, they add n.
+-- If the result is Ok, the number of finished calls has grown by n.
 abbrev pub more : {T E : Type 0} → Result T E → ℕ → ℕ → ℕ → Type 0
 more result n before after = OnOk result (after ≡ before + n)
 

@@ -16,8 +16,8 @@ pub fn picks_are_even()
     ensures { PicksAreEven }
 {}
 
-/// States that a relocated request is inserted again, and the plan costs no more: its old place is one of its
-/// insertions.
+/// States that a relocated request is always inserted again, and that the plan then costs no more: the request
+/// can at least return to its old place.
 pub fn relocated_never_cost_more()
     ensures { RelocatedNeverCostMore }
 {

@@ -140,7 +140,7 @@ module _ (limits : Limits) (places : List PlaceSlack) (p q : Stop) (i : ℕ) (d 
       omega arith
 
   module _ (least : List ℤ) (is : AreLeastDetours i least places q) (bound : ℤ) where
-    -- each later delivery adds the bound or more
+    -- each later delivery adds at least the bound
     pub dear-following : (k far base : ℕ) → i ≤ k → k < length least → far ≤ reach → base ≡ (get_or places i d).at.distance
         → bound ≤ℤ ((pos far -ℤ pos base) +ℤ get_or least k (pos 0)) → (j : ℕ) (x : ℤ) → k + 2 ≤ j → j ≤ length places
         → with_pair limits places p q i j d ≡ Some x → bound ≤ℤ x
@@ -149,7 +149,7 @@ module _ (limits : Limits) (places : List PlaceSlack) (p q : Stop) (i : ℕ) (d 
         let le = is.lower k (j - 2) d order known (omega arith) (omega arith) in
         omega (arith, ints)
 
-    -- each delivery adds the bound or more, by lower bounds
+    -- each delivery adds at least the bound, by lower bounds
     pub all-dear : (before next : PlaceSlack) (to between_stops from onward : ℕ) → i < length least → before ≡ get_or places (i - 1) d
         → next ≡ get_or places i d → to ≤ distance (get_or places (i - 1) d).at.stop p → between_stops ≡ distance p q
         → from ≤ distance (get_or places i d).at.stop q → onward ≤ distance (get_or places i d).at.stop p

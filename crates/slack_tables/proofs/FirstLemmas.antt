@@ -91,7 +91,7 @@ module _ (Is : PricedInsertion → Type 0) (key : PricedInsertion → ℕ)
   all-cursor below bound n None so all = λ a is. so.1 a is.0 (all a is.0) is.1
   all-cursor below bound n (Some b) so all = ((so.1, so.3), λ a is. so.4 a is.0 (all a is.0) is.1)
 
-  -- the best is final if all other insertions add the bound or more
+  -- the best is final if all other insertions add at least the bound
   pub rest-dear : (below bound : ℤ) (n : ℕ) (best : Option PricedInsertion) → SoFar below n bound best
       → ((a : PricedInsertion) → Is a → n ≤ key a → a.distance <ℤ bound → ⊥) → IsFirstOf (CostsLess Is below) best
   unfolding SoFar

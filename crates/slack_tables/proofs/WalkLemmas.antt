@@ -72,7 +72,7 @@ price_if_feasible-any limits a s tail e r service to from is_ride is_service is_
     by true _ = refl
     by false none = absurd none
 
--- an insertion that adds the bound or more is not recorded
+-- an insertion that adds at least the bound is not recorded
 pub offer-below : (best : Best) (kept : Bool) (x : ℤ) (i j : ℕ)
     → offered best (cond (int_lt x best.bound) (cond kept (Some x) None) None) i j ≡ offered best (cond kept (Some x) None) i j
 offer-below best kept x i j = by kept (int_lt x best.bound) refl

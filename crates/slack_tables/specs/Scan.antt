@@ -54,7 +54,7 @@ pub record InsertsDelivery (limits : Limits) (places : List PlaceSlack) (p q : S
 abbrev pub AddsDelivery : Limits → List PlaceSlack → Stop → Stop → ℕ → ℤ → PlaceSlack → PricedInsertion → Type 0
 AddsDelivery limits places p q i below d a = CostsLess (InsertsDelivery limits places p q i d) below a
 
--- with the pickup at place i, each place of the delivery adds the bound or more
+-- with the pickup at place i, the delivery adds at least the bound at each of its places
 abbrev pub AreTooExpensive : Limits → List PlaceSlack → Stop → Stop → ℕ → ℤ → Type 0
 AreTooExpensive limits places p q i bound = (j : ℕ) (x : ℤ) (d : PlaceSlack) → i + 1 ≤ j → j ≤ length places → with_pair limits places p q i j d ≡ Some x → bound ≤ℤ x
 

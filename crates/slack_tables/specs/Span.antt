@@ -64,7 +64,7 @@ pub record IsFloorOfPair (span : Span) (p q : DistanceFloors) (between_stops : �
   pub first : x ≤ℤ (pos (p.to_depot + between_stops + q.inside) -ℤ span.longest_depot_leg)
   pub last : x ≤ℤ (pos (p.inside + between_stops + q.to_depot) -ℤ span.longest_depot_leg)
 
--- a single adds the bound or more wherever it is inserted
+-- a single adds at least `below`, wherever it is inserted
 pub record IsFarSingle (span : Span) (depot s : Stop) (below : ℤ) : Type 0 where
   pub near : DistanceFloors
   pub nearest : AreDistanceFloors span depot s near
@@ -72,7 +72,7 @@ pub record IsFarSingle (span : Span) (depot s : Stop) (below : ℤ) : Type 0 whe
   pub lowest : IsFloor span near floor
   pub dear : below ≤ℤ floor
 
--- a pair adds the bound or more wherever it is inserted, whether its stops are consecutive or not
+-- a pair adds at least `below`, wherever it is inserted, and whether or not its stops are consecutive
 pub record IsFarPair (span : Span) (depot p q : Stop) (below : ℤ) : Type 0 where
   pub to_p : DistanceFloors
   pub nearest_p : AreDistanceFloors span depot p to_p

@@ -19,7 +19,7 @@ pub(crate) struct Progress {
     pub stop: Stop,
     /// The start of service at the place.
     pub start: u64,
-    /// The load after it.
+    /// The load after the service.
     pub load: i64,
     /// The distance from the depot.
     pub distance: u64,

@@ -5,8 +5,8 @@
 //! - the whole scan, by the span of the route, before it starts (`rules_out` of `table`);
 //! - places of the pickup where a lower bound on times shows that the pickup or the next stop is too late
 //!   (`closed`);
-//! - places of a pickup or a single where a lower bound on prices shows that each insertion adds the bound or
-//!   more;
+//! - places of a pickup or a single where a lower bound on prices shows that each insertion adds at least the
+//!   bound;
 //! - the rest of the delivery's places, once the vehicle is past the delivery's latest time.
 //!
 //! For the prices, a buffer on the stack holds the least detours to the delivery from each place on (`legs`),

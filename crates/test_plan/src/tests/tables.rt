@@ -404,7 +404,8 @@ fn rebuilt(
     rebuild(alloc, problem, &mut table, &near, second)
 }
 
-// Returns the size of a table that is made from this one's memory, if the route keeps the limits.
+// Returns the size of the table that is built for the route in the memory of `table`, if the route keeps the
+// limits.
 fn remake(
     problem: &Problem,
     table: RouteTable,

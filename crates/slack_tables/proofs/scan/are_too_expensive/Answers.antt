@@ -1,4 +1,4 @@
--- By lower bounds, the delivery directly after the pickup and each later one add the bound or more.
+-- By lower bounds, the delivery directly after the pickup and each later one add at least the bound.
 use Rattle.std.proofs.Common.{w64}
 use mir.Val.{SFits}
 use Rattle.slack_tables.proofs.DetourLemmas.{all-dear}

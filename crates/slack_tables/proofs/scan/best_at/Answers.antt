@@ -1,4 +1,4 @@
--- If all deliveries add the bound or more, or the pickup breaks a limit, none adds less than the bound.
+-- If all deliveries add at least the bound, or the pickup breaks a limit, none adds less than the bound.
 -- Otherwise the vehicle continues from the pickup.
 use Rattle.std.proofs.Common.{◌∙◌, w64, refl, subst, sym, ap}
 use mir.Val.{SFits}

@@ -1,5 +1,5 @@
 -- The delivery here is offered. The best so far is final past the delivery's latest time, after a broken limit
--- or the last place, and if the rest adds the bound or more.
+-- or the last place, and if the later deliveries add at least the bound.
 use Rattle.std.proofs.Common.{false, ◌≡◌, ◌∙◌, ◌+◌, ◌-◌, w64, rules, arith, subst, sym, ap}
 use mir.Val.{SFits}
 use Rattle.std.proofs.lemmas.Int.{to_z-of_z}

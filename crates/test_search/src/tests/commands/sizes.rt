@@ -54,7 +54,8 @@ fn planned(alloc: Global, state: State, plan: Plan) -> Result<State, Fail> {
     }
 }
 
-// Returns a state with one request less than possible, as many vehicles as possible, and one route of all stops.
+// Returns a state with one request fewer than possible, as many vehicles as possible, and one route of all
+// stops.
 fn largest(alloc: Global) -> Result<State, Fail> {
     let plan = one_route(alloc, 39_999, 40_000)?;
     let problem = grid(alloc, 39_999, 1_000_000, 40_000)?;
