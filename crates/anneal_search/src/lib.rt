@@ -12,11 +12,11 @@
 //! routes. All movable requests with a stop in a string are removed at once. Then all unplanned requests are
 //! inserted one by one, each at its best place, in the order of one of sixteen keys.
 //!
-//! If the candidate is near the working plan, it becomes the working plan, so annealing climbs step by step. If
-//! it then costs no more than the incumbent, it becomes the incumbent, too. A fifth to three fifths of the
-//! candidates turn out too far away while requests are still being inserted, and are dropped then
-//! (`place_all_if_near`). In an attempt, candidates are compared in another way, by the requests that they
-//! leave out (`attempt_steps`).
+//! If the candidate costs at most a threshold more than the working plan (`is_near`), it becomes the working
+//! plan, so annealing climbs step by step. If it then costs no more than the incumbent, it becomes the
+//! incumbent, too. A fifth to three fifths of the candidates turn out to be too expensive while requests are
+//! still being inserted, and are dropped then (`place_all_if_near`). In an attempt, candidates are compared in
+//! another way, by the requests that they leave out (`attempt_steps`).
 //!
 //! The sixteen nearest stops of a stop, which a search state of many steps keeps, lead to the nearest routes.
 //! If they are too few, or are not kept, a step scans the stops of the routes instead.

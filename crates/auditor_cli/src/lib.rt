@@ -27,12 +27,12 @@
 //! - `program`: `audit_args`
 //!
 //! Proved for `audit_text` and `audit_routes_text`: the answer is that of the first fault, or that of the
-//! verdict on the values that the two texts represent. The status is 0 exactly if the solution is sound, serves
-//! every request, uses no more vehicles than there are, and, for `audit_text`, prints its true distance
-//! (`SaysSound`, `SaysRoutesSound`). Proved for `audit_args`, if no argument except `-` begins with a hyphen
-//! (`EndsWith`): which files are read, in which order, and the status; and what is printed, unless the output
-//! fails. No contract covers what the system's files contain: `HostFiles` and `HostNewFiles` record each file
-//! with the result of reading or writing it.
+//! verdict on the problem and the solution that the two texts spell. The status is 0 exactly if the solution is
+//! sound, serves every request, uses no more vehicles than there are, and, for `audit_text`, prints its true
+//! distance (`SaysSound`, `SaysRoutesSound`). Proved for `audit_args`, if no argument except `-` begins with a
+//! hyphen (`EndsWith`): which files are read, in which order, and the status; and what is printed, unless the
+//! output fails. No contract covers what the system's files contain: `HostFiles` and `HostNewFiles` record each
+//! file with the result of reading or writing it.
 #![tactic(auto)]
 
 mod answer;

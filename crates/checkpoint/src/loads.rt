@@ -1,8 +1,8 @@
 //! Reads a store.
 //!
-//! One call reads the headers and records, 258 sectors. Another one reads the snapshot into a buffer. Its
-//! length is in the valid header, and is at most half of the device. So `OutOfMemory` may be reported for a
-//! device that turns out to have no store.
+//! One call reads the headers and records, 258 sectors. Another one reads the snapshot into a buffer. The
+//! length of the snapshot is in the valid header, and is at most half of the device. So `OutOfMemory` may be
+//! reported for a device that turns out to have no store.
 ghost use Rattle.std.specs.Prelude.{◌≡◌, ◌+◌, ◌*◌, ◌/◌, ◌%◌, ◌<◌, ◌≤◌, ℕ, List, length, take, drop, OnOk, IfOk, IfErr, IsErrOf, MatchResult};
 ghost use Rattle.command_types.specs.States.{IsState};
 ghost use Rattle.checkpoint.specs.Layouts.{version_1, version_2, front_sectors, min_sectors, sectors_in};

@@ -30,7 +30,8 @@
 //! after the executed operations. After a `ServeFault` this holds for a prefix of the input, with at most one
 //! more operation, whose answer is written in part, whole or not at all. The input requested each operation
 //! that was tried, and no answer is written before the device calls that it acknowledges have finished. A crash
-//! at any moment recovers to a prefix of the kept operations with every acknowledged one
+//! at any moment recovers to the state after a prefix of the kept operations: those executed, and the one
+//! during which the device failed, if any. The prefix has every acknowledged operation
 //! (`crashed_servings_recover` states this for an input). `no Spent`, `fault device` and `ServeFault` occur
 //! only with their causes. Serving through a `StrictWriter` executes nothing after the first answer that
 //! reports a refusal or a failed device.

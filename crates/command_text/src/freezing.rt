@@ -40,7 +40,7 @@ pub(crate) fn next_freeze_command(
     None
 }
 
-// Returns how many stops `freeze` pins for the vehicle at this time, if these are more than are pinned already.
+// Returns the length that `freeze` gives the vehicle's pin at this time, if the pin becomes longer.
 fn new_pin_len(state: &State, job: &Job, time: u32, vehicle: u32) -> Option<u32>
     requires { state.now ≡ Loaded job.now }
     ensures { result ≡ new_pin_len time job.now vehicle }
@@ -64,7 +64,7 @@ fn above(low: usize, stops: u32) -> Option<u32>
     }
 }
 
-// Returns to how many stops of a route its vehicle has departed by this time. Takes no memory.
+// Returns the number of stops of a route to which its vehicle has departed by this time. Takes no memory.
 fn departed_count(problem: &Problem, route: &[u32], time: u32) -> usize
     requires { AreDistinctStops problem.now route.now }
     ensures { result ≡ departed_count problem.now route.now time }

@@ -1,6 +1,6 @@
-//! Attempts to reduce the fleet: annealing of a plan's requests with only some of its vehicles, whose result is
-//! put back as a plan of all vehicles. If a plan leaves requests unplanned, an attempt uses all vehicles to
-//! serve them.
+//! Attempts to reduce the fleet: the requests of a plan are annealed with only some of its vehicles, and the
+//! result is put back as a plan of all vehicles. If a plan leaves requests unplanned, an attempt uses all
+//! vehicles to serve them.
 //!
 //! The entry function is `reduce_fleet`.
 //!
@@ -15,10 +15,10 @@
 //! Hentenryck 2006; Nagata and Bräysy 2009).
 //!
 //! Proved: `reduce_fleet` returns the plan that the attempts of the definition find, and the number of the step
-//! after their last. From a plan that passes they lead to a plan that passes and costs no more, within their
-//! steps (`attempts_keep_plans`, `attempts_never_cost_more`). If a plan passes, the routes of some of its vehicles
-//! pass in a fleet of only these; and a plan of these vehicles, put back at their numbers, passes with the pins
-//! (`picked_pass`).
+//! after their last. From a plan that passes, the attempts lead to a plan that passes and costs no more, within
+//! their steps (`attempts_keep_plans`, `attempts_never_cost_more`). If a plan passes, the routes of some of its
+//! vehicles pass in a fleet of only these; and a plan of these vehicles, put back at their numbers, passes with
+//! the pins (`picked_pass`).
 #![tactic(auto)]
 
 mod attempts;

@@ -21,7 +21,7 @@ use Rattle.move_ops.proofs.Choosing.{unlimited, priced_at}
 use Rattle.move_ops.proofs.Places.{within, listed}
 use Rattle.move_ops.proofs.PlacementLemmas.{named_so, placed_none}
 
--- a plan is far from itself, since no request was inserted
+-- a plan is far from itself (`IsFar`), since no request was inserted
 far_itself : (p : Instance) (routes other : List (List ℕ)) (below : ℤ) → routes ≡ other → IsFar p routes other below
 far_itself p routes other below same = subst (λ (l : List (List ℕ)). IsFar p routes l below) same (inl (omega arith))
 

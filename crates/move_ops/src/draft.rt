@@ -2,7 +2,7 @@
 //!
 //! The log keeps the route and table that each changed vehicle had in the base, once per vehicle. Discarding
 //! the draft puts them back; accepting it clears the log. The moves are in the files of `draft/`. A removal
-//! allocates two short lists, of vehicles and of their tours; an exchange and a crossing allocate a few. A move
+//! allocates two short lists, of vehicles and of their tours; an exchange and a 2-opt* allocate a few. A move
 //! allocates everything before its first change, and the log has room for every vehicle from the start. So if
 //! an allocation fails, the draft is unchanged.
 //!
@@ -11,10 +11,10 @@
 //! - `used_len`: the length of the used part of the plan. No vehicle after it has a stop. Best insertions look at
 //!   these vehicles and at the next one, which stands for all idle vehicles. A request that opens a vehicle
 //!   takes the first idle one, so few vehicles of the used part are empty;
-//! - `vehicle_hints`: by stop the vehicle to look at first. 0 says that no route has the stop, which is an invariant.
-//!   Any other number is a hint that may be stale, so it is checked;
-//! - `max_demands`: by vehicle the greatest demand that a single may have. A single with a greater demand fits
-//!   nowhere into the route, so best insertions skip full vehicles without reading their tables;
+//! - `vehicle_hints`: for each stop, the vehicle to look at first. 0 says that no route has the stop, which is
+//!   an invariant. Any other number is a hint that may be stale, so it is checked;
+//! - `max_demands`: for each vehicle, the greatest demand that a single may have. A single with a greater
+//!   demand fits nowhere into the route, so best insertions skip full vehicles without reading their tables;
 //! - `cost`: a change updates the distance and the number of used vehicles from the routes that it replaces. A
 //!   removal adds the number of its names to the unplanned requests (a repeated name counts once); placing a
 //!   request subtracts one.

@@ -1,6 +1,6 @@
 //! The subcommand `timetable`: the timetable of a solution in a file, or of the plan in a store.
 //!
-//! A store is opened for reading only. Search steps that only its journal records are replayed in memory.
+//! A store is opened for reading only. Search steps that are only in its journal are replayed in memory.
 ghost use Rattle.std.specs.Prelude.{◌≡◌, ◌≤◌, ◌∷◌, All, IfOk, string_bytes};
 ghost use Rattle.route_sched.specs.Route.{AreDistinctStops};
 ghost use Rattle.file_disk.specs.DeviceFiles.{IsOpenedReadOnlyAt};

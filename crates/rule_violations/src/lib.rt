@@ -3,7 +3,7 @@
 //! `violations_of` lists the places that break a rule, and by how much. `missing_stops` lists the stops that
 //! are in no route. `first_position` finds the first position of a stop. `is_late` and `is_overload` are the
 //! comparisons of rules 6 to 8, and `visit_after` returns the visit after a place. `schedule_is_known` returns
-//! whether the schedule of the routes is known when this rule is the first broken one.
+//! whether the schedule of the routes is known when a given rule is the first broken one.
 //!
 //! Modules, in reading order:
 //! - `violations`: a violation, and the violations of a rule.

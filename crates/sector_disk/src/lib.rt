@@ -5,7 +5,8 @@
 //! Tests pass them a `MemDevice`, the program passes them the `FileDevice` of `file_disk`.
 //!
 //! Modules, in reading order:
-//! - `sectors`: the trait, with what each call guarantees for an honest device
+//! - `sectors`: the trait, with what each call guarantees for an honest device (one that answers as the model
+//!   says)
 //! - `mem_device`: a device in memory; tests choose which calls fail and what a crash leaves
 //! - `laws`: the meaning of the model
 //!

@@ -347,7 +347,7 @@ pub incumbents_never_cost_more : CostsAreTotal → CostsAreTransitive → Incumb
 unfolding steps
 incumbents_never_cost_more total transitive p pins deviation seed n count s = many_cost (step p pins deviation seed) p total transitive (step_cost p pins deviation seed total) count n s
 
--- a candidate that is far changes nothing
+-- a candidate that is far, for which `is_near` fails, changes nothing
 module _ (p : Instance) (deviation : ℕ) (s : SearchPlans) (c : List (List ℕ)) where
   pub none_moved : cost_at_most (cost_of p c) (cost_of p s.incumbent) ≡ false → is_near deviation (cost_of p c) (cost_of p s.incumbent) ≡ false → s ≡ after_candidate p deviation s c
   none_moved above far = by (cost_at_most (cost_of p c) (cost_of p s.incumbent)) (is_near deviation (cost_of p c) (cost_of p s.incumbent)) above far

@@ -21,7 +21,8 @@ use std::alloc::Global;
 
 /// Turns the draft into the candidate of a step's words, if there is one: one request is relocated, two are
 /// exchanged, two routes exchange their ends, or up to eight requests are removed and inserted again. A
-/// candidate that is known to be far from the incumbent is not made. Returns whether the draft is the candidate.
+/// candidate that is known to be far from the incumbent (`is_near` fails) is not made. Returns whether the
+/// draft is the candidate.
 #[tactic(auto, unfolding(crate::specs::Steps::candidate), using(crate::proofs::SearchLemmas::made_near))]
 pub(crate) fn make(
     alloc: Global,

@@ -1,8 +1,9 @@
 //! The state of a search between steps, and how it accepts a candidate (record-to-record travel, Dueck 1993).
 //!
 //! The candidate is a draft over the working plan (`move_ops::Draft`), which is accepted or discarded. No plan
-//! is copied for it. If an exchange or a crossing is known to be far, the step ends before a route changes. A
-//! candidate that costs no more than the incumbent is near it, so accepting the draft once serves both plans.
+//! is copied for it. If the plan after an exchange or a 2-opt* is known to be too far from the incumbent in
+//! cost, the step ends before a route changes. A candidate that costs no more than the incumbent is near it, so
+//! accepting the draft once serves both plans.
 //!
 //! The lists of movable and of unplanned requests stay valid if no request is unplanned before and after a
 //! candidate is accepted, since both plans then have all requests, and also if the candidate equals the plan

@@ -1,4 +1,4 @@
-//! The stops nearest to each stop, for steps that ask which routes are near to one (`anneal_search`).
+//! The stops nearest to each stop, for steps that need the routes nearest to a stop (`anneal_search`).
 //!
 //! A list of nearest stops is made when a step first needs it, and is kept with the search state. The search for
 //! it goes over the stops from west to east: once a stop is too far east or west, all stops beyond it are too

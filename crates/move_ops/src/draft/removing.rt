@@ -3,8 +3,8 @@
 //! A removal looks only at the routes in which the requests' stops are: a stop is in one route at most. All
 //! stops of a request leave together, so the other pairs stay whole and only the limits are checked. Hardly any
 //! removal breaks a limit, so a route is checked while its table is built in spare memory
-//! (`Tour::into_rebuilt_if_feasible`). This drives the route once. If the route is refused, the memory of the
-//! table is freed.
+//! (`Tour::into_rebuilt_if_feasible`). So the limits take no pass of their own. If the route is refused, the
+//! memory of the table is freed.
 ghost use Rattle.std.specs.Prelude.{◌≡◌, ◌≤◌, ◌+◌, ◌∷◌, [], length, nat_eq, true, false, ℕ, All, IsSome, IfSome, IfOk, OnOk, OnErr, MatchOption};
 ghost use Rattle.route_sched.specs.Cost.{has_stop, is_planned};
 ghost use Rattle.move_ops.specs.Changes.{changes_of, distinct_count, removals, with_routes, AreCourses, AreIn, AreToursOf, AreVehiclesToChange, IsChange, IsRemoval, Collects};

@@ -1,4 +1,4 @@
--- The next sixteen words of a generator are the words of the step before which it is.
+-- If a generator is at the beginning of a step, its next sixteen words are the words of this step.
 use Rattle.std.proofs.Common.{ap, ◌∙◌}
 use Rattle.rand_chacha.specs.ChaCha.{ChaCha}
 use Rattle.seeded_search.specs.Words.{step_words}
