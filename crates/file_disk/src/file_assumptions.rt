@@ -7,9 +7,9 @@
 ghost use Rattle.std.specs.Prelude.{ℕ, List, [], ◌∷◌};
 ghost use Rattle.sector_disk.specs.Model.{Disk, settled};
 
-/// The content of a file when it is opened, and what it reads after a failed call. No code can read these
-/// members. So a function over `S: FileAssumptions` is proved for every file, and its theorem reads: if the
-/// file answers as these members say, then ..
+/// The content of a file when it is opened, and what its reads return after a failed call. No code can read
+/// these members. So a function over `S: FileAssumptions` is proved for every file, and its theorem reads: if
+/// the file answers as these members say, then ..
 pub trait FileAssumptions: Drop {
     /// The bytes that reads return, and the possible contents of each sector. A sector may have several: a
     /// killed process leaves writes that are not durable yet.

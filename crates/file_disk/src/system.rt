@@ -206,7 +206,7 @@ pub fn read_at(
     answer
 }
 
-/// Writes these bytes, or a prefix of them, from this offset on. If it writes none of them, the error is
+/// Writes these bytes, or a prefix of them, from this offset on. If no byte is written, the error is
 /// `WriteZero`.
 pub fn write_at(
     file: &File,

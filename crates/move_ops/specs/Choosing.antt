@@ -155,8 +155,8 @@ bound_against v f = if nat_lt v f.vehicle then f.addition.distance +ℤ pos 1 el
 abbrev pub bound_over : Bool → ℤ → Bool → Option ℤ
 bound_over rival d o = if rival && not o then Some (pos 9223372036854775807) else if o && not rival then None else Some d
 
--- the bound that the added distance of an insertion at vehicle v must be below, to be better than the best so
--- far, or than the limit
+-- the bound below which the added distance of an insertion at vehicle v has to be, for the insertion to be
+-- better than the best so far, or than the limit
 abbrev pub bound_of : ℕ → Bool → Limit → Option Candidate → Option ℤ
 bound_of v o l None = bound_over l.opens l.below o
 bound_of v o l (Some f) = bound_over f.opens (bound_against v f) o

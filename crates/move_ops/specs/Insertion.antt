@@ -84,7 +84,7 @@ is_no_later x y = nat_lt x.0 y.0 || ((x.0 == y.0) && (nat_lt x.1 y.1 || ((x.1 ==
 abbrev pub cost_with : Instance → List (List ℕ) → Request → Insertion → Cost
 cost_with p routes r x = cost_of p (with_request_at routes r x)
 
--- x is no worse than y: its result costs less, or no more and x is no later
+-- x is no worse than y: the plan with x costs less; or it costs no more, and x is no later
 abbrev pub is_no_worse : Instance → List (List ℕ) → Request → Insertion → Insertion → Bool
 is_no_worse p routes r x y =
     cost_below (cost_with p routes r x) (cost_with p routes r y) ||

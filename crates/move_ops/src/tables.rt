@@ -154,8 +154,8 @@ impl Tables {
     }
 
     /// Rebuilds the tables of these vehicles for a plan whose other routes are those of the tables. Vehicles
-    /// count from 1; the list may be empty or name one twice. All new tables are built before one replaces an
-    /// old one, so if an allocation fails the old ones stay.
+    /// count from 1; the list may be empty or name a vehicle twice. All new tables are built before one
+    /// replaces an old one, so if an allocation fails the old ones stay.
     pub fn refresh(
         &mut self,
         problem: &Problem,
@@ -331,9 +331,9 @@ fn best_of_first(
     best
 }
 
-// Looks for a better insertion at this vehicle, unless it is one of `first`, which are done. Returns the bound
-// that the added distance must be below at a later used vehicle. This bound is one number, since for most
-// vehicles the only question is whether it rules them out.
+// Looks for a better insertion at this vehicle, unless the vehicle is one of `first`, which were looked at
+// before. Returns the bound below which the added distance has to be at a later used vehicle. This bound is one
+// number, since for most vehicles the only question is whether it rules them out.
 #[inline(always)]
 fn scan_vehicle(
     terms: &InsertionContext,
@@ -424,8 +424,8 @@ fn opens(kind: Kind, table: &Tour) -> bool
     }
 }
 
-// Returns the bound that the added distance of an insertion at this vehicle must be below. The insertion then
-// beats the best so far, or keeps the limit.
+// Returns the bound below which the added distance of an insertion at this vehicle has to be. The insertion
+// then beats the best so far, or keeps the limit.
 #[inline(always)]
 fn bound(vehicle: u64, opens: bool, limit: &Limit, best: &Option<Candidate>) -> Option<i64>
     requires { IsBelowMaximum best.now }
@@ -437,8 +437,8 @@ fn bound(vehicle: u64, opens: bool, limit: &Limit, best: &Option<Candidate>) -> 
     }
 }
 
-// Returns the bound that the added distance of an insertion must be below to beat a rival that adds `distance`.
-// Each of the two may open a vehicle.
+// Returns the bound below which the added distance of an insertion has to be, for the insertion to be better
+// than a rival that adds `distance`, or `None` if it can't be. Each of the two may open a vehicle.
 #[inline(always)]
 fn bound_over(rival_opens: bool, distance: i64, opens: bool) -> Option<i64>
     ensures { result ≡ bound_over rival_opens distance opens }

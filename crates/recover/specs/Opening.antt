@@ -130,8 +130,8 @@ module _ {D : Type 0} (on : sectors.Ghosts D) where
     pub same_len : on.len session.device ≡ on.len device
 
   -- Opening the device was refused: its image recovers to no state, or could not be read. Unless the device
-  -- failed, reads then return the same, so another opening returns what this one would have returned. At each
-  -- moment of the opening each image is one of those before.
+  -- failed, reads then return the same, so another opening returns what this one would have returned without
+  -- the refusal. At each moment of the opening each image is one of those before.
   pub record IsRefused (device after : D) (fault : StoreFault) : Type 0 where
     pub refused : on.honest after → UnlessReadFailed (RecoversToNothing Two (on.seen device)) fault
     pub opens : on.honest after → Opens Two (on.seen device) (Err fault)

@@ -135,9 +135,9 @@ impl<D: Sectors> Session<D> {
     /// The image that reads return recovers to the session's state. Opening is refused only if that image
     /// recovers to no state, if memory runs out or if the device fails. A refusal returns the device: unless
     /// the device failed, reads then return the same, so another opening returns what this one would have
-    /// returned. At each moment within the call a crash leaves an image that it might have left before, and
-    /// after `Ok` one that recovers to the state. A device of fewer than 802 sectors is `NotFormatted`, and is
-    /// not called.
+    /// returned without the refusal. At each moment within the call a crash leaves an image that it might have
+    /// left before, and after `Ok` one that recovers to the state. A device of fewer than 802 sectors is
+    /// `NotFormatted`, and is not called.
     pub fn open(alloc: Global, device: D) -> Result<Opened<D>, (StoreFault, D)>
         ensures { MatchResult result
             (λ opened. IsOpened D.Sectors device opened.session opened.replayed)

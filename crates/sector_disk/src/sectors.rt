@@ -26,7 +26,7 @@ pub struct DeviceFault;
 /// the last successful sync or any content written to it since. This is guaranteed for an honest device.
 ///
 /// `calls` and `faults` never exceed 2^64-1. If `calls` has this value, every write or sync fails. If `faults`
-/// has it, it stays the same.
+/// has this value, `faults` stays the same.
 pub trait Sectors {
     /// The number of sectors.
     ghost len: { Self → ℕ };

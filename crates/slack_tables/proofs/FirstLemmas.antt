@@ -30,7 +30,7 @@ first-delivery a b le same before = record { distance = le; pickup = λ _. omega
 
 module _ (Is : PricedInsertion → Type 0) (key : PricedInsertion → ℕ)
     (order : (a b : PricedInsertion) → Is a → Is b → a.distance ≤ℤ b.distance → key a < key b → ComesFirst a b) where
-  -- the first insertion with a key below n, and the distance that the next ones must be below
+  -- the first insertion with a key below n, and the bound below which the distance of the next ones has to be
   unfoldable pub SoFar : ℤ → ℕ → ℤ → Option PricedInsertion → Type 0
   SoFar below n bound best =
       MatchOption best ((bound ≡ below) × ((a : PricedInsertion) → Is a → key a < n → a.distance <ℤ below → ⊥))

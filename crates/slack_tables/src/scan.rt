@@ -54,7 +54,7 @@ pub fn best_places_are_unique()
     ensures { BestPlacesAreUnique }
 {}
 
-// The best insertion so far, and the distance that the next one has to be below.
+// The best insertion so far, and the bound below which the distance of the next one has to be.
 #[derive(Clone, Copy)]
 struct Best {
     bound: i64,
