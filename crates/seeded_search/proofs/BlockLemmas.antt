@@ -72,7 +72,7 @@ pub length-block : (seed b : ℕ) → length (block seed b) ≡ 16
 length-block seed b =
     ap length (block_same seed b) ∙ length-add_states _ _ (length_rounds seed b 10 ∙ sym (length_start seed b)) ∙ length_rounds seed b 10
 
--- the word at a place is that of rand_chacha
+-- the word at place p of a seed's key stream is the one by rand_chacha's contracts
 pub word_same : (seed p : ℕ) → word seed p ≡ word_at 10 (key_of (key_bytes seed)) 0 p
 unfolding word start kit.block_word
 word_same seed p =

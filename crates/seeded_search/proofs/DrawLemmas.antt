@@ -1,5 +1,5 @@
--- Items drawn one after another without repetition, by their indices in the list, which is not changed by the
--- draws.
+-- Items drawn one after another without repetition. The list is not changed by the draws; each drawn item is found
+-- by its index in the list.
 use Rattle.std.proofs.Common.{◌≡◌, ℕ, ◌+◌, ◌-◌, ◌<◌, ◌≤◌, true, false, cond, nat_le, List, [], ◌∷◌, ◌++◌, length, drop, get_or, slice_index, refl, sym, ap, subst, ◌∙◌, inl, inr, arith}
 use Rattle.std.proofs.lemmas.Bool.{cases_lt}
 use Rattle.std.specs.List.{remove}
@@ -17,7 +17,7 @@ length_left (i ∷ older) xs are =
     let one = length-remove (left_of older xs) i are.0 in
     omega arith
 
--- the item at index k of the rest after one removal
+-- after item i is removed, item k of the rest is the old item k, or the old item k + 1 if i is at most k
 left_at : (i k : ℕ) (xs : List ℕ) → i < length xs → k < length (remove xs i) → (get_or (remove xs i) k 0 ≡ get_or xs (cond (nat_le i k) (k + 1) k) 0) × (cond (nat_le i k) (k + 1) k < length xs)
 left_at i k xs within low = elim (cases_lt k i) [
   | inl below ↦ (
@@ -28,7 +28,7 @@ left_at i k xs within low = elim (cases_lt k i) [
       rw yes (get_or-remove_above xs i 0 k above within, omega (arith, length-remove xs i within)))
 ]
 
--- the item of the rest at an index is that of the whole list at the corresponding index
+-- item k of the rest is the item of the whole list at `index_of taken k`
 left_is : (taken xs : List ℕ) (k : ℕ) → AreTaken taken xs → k < length (left_of taken xs) → (get_or (left_of taken xs) k 0 ≡ get_or xs (index_of taken k) 0) × (index_of taken k < length xs)
 left_is [] xs k are low = (refl, low)
 left_is (i ∷ older) xs k are low =
@@ -59,7 +59,8 @@ first_drawn : (w : ℕ) (ws left : List ℕ) → 0 < length left → drawn (w �
 first_drawn w ws [] some = absurd (omega arith)
 first_drawn w ws (x ∷ xs) some = refl
 
--- the items drawn so far, with one more word
+-- after one more word has drawn its item, the items so far and those of the remaining words are again all items
+-- drawn
 pub drawn_more : (names new all words : List ℕ) (n w k x : ℕ) (taken after xs : List ℕ) → AreTaken taken xs
     → names ++ drawn (drop n words) (left_of taken xs) ≡ all → n < length words → w ≡ slice_index words n
     → k ≡ pick w (length xs - length taken) → k < length xs - length taken → x ≡ slice_index xs (index_of taken k) → new ≡ names ++ x ∷ [] → after ≡ k ∷ taken

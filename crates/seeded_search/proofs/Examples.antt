@@ -29,8 +29,8 @@ step_1 : step_words 0 1
 unfolding quarter_round quarter_round_at inner_block inner_blocks add_states chacha20_block words_of_bytes block word step_words
 step_1 = refl
 
--- a block whose number has a high half, of a seed with eight different bytes, as another program computes it:
--- ChaCha20 of Python's package `cryptography`, whose nonce of 16 bytes begins with the block's number in 8 bytes
+-- a block whose number has a high half, of a seed with eight different bytes. The words are those of ChaCha20 in
+-- Python's package `cryptography`, whose nonce of 16 bytes begins with the block's number in 8 bytes
 late_step : step_words 0x0123456789abcdef (2 ^ 32 + 5)
     ≡ 0x7442b8f8 ∷ 0x5ba394b1 ∷ 0x16838905 ∷ 0xc8db901a ∷ 0x3ff31e08 ∷ 0xf15737d0 ∷ 0x4ac058d2 ∷ 0xfff8b785
     ∷ 0x5255bc22 ∷ 0x7ccab750 ∷ 0xa7937aa5 ∷ 0x0f68ee0f ∷ 0x183cfe51 ∷ 0xab6ab535 ∷ 0x280ed136 ∷ 0x2a1386be ∷ []

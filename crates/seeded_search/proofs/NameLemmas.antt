@@ -51,7 +51,8 @@ use Rattle.seeded_search.specs.Names.{name_where, names_where}
 use Rattle.seeded_search.specs.Steps.{movable_names, unplanned_names}
 
 module _ (test : Request → Bool) where
-  -- the names of a list: that of its first request if the request passes the test, then those of the others
+  -- the names of a list are the name of its first request, if this request passes the test, and then the names of
+  -- the later requests
   first_name : (e : ℕ × Request) (es : List (ℕ × Request)) → names_where test (e ∷ es) ≡ cond (test e.1) (e.0 ∷ names_where test es) (names_where test es)
   first_name e es = elim (cases_Bool (test e.1)) [ inl t ↦ rw t refl | inr f ↦ rw f refl ]
 
@@ -90,8 +91,8 @@ module _ (test : Request → Bool) where
     | inr past ↦ (let less = past.0 in ap (names_where test) (drop_all k es past.0 ∙ sym (drop_all (k + 1) es (omega arith))))
   ]
 
-  -- the names collected so far, followed by the name of a request that passes the test and by those of the
-  -- requests after it
+  -- if request k passes the test, its name is appended; the names so far, followed by those from request k + 1 on,
+  -- are then again all names
   pub name_pushed : (names new : List ℕ) (es : List (ℕ × Request)) (k n : ℕ) (all : List ℕ) → names ++ names_where test (drop k es) ≡ all
       → option_and_then (name_where test) (slice_get es k) ≡ Some n → new ≡ names ++ n ∷ [] → new ++ names_where test (drop (k + 1) es) ≡ all
   name_pushed names new es k n all so_far is made =
@@ -102,7 +103,7 @@ module _ (test : Request → Bool) where
       → option_and_then (name_where test) (slice_get es k) ≡ None → new ≡ names → new ++ names_where test (drop (k + 1) es) ≡ all
   name_passed names new es k all so_far is made = ap (λ l. l ++ names_where test (drop (k + 1) es)) made ∙ (ap (λ l. names ++ l) (sym (name_later es k is)) ∙ so_far)
 
-  -- after the last request there are no names
+  -- after the last request, the names collected so far are all names
   pub name_end : (names : List ℕ) (es : List (ℕ × Request)) (k : ℕ) (all : List ℕ) → names ++ names_where test (drop k es) ≡ all → length es ≤ k → names ≡ all
   name_end names es k all so_far past = sym (append-nil names) ∙ (ap (λ l. names ++ names_where test l) (sym (drop_all k es past)) ∙ so_far)
 
@@ -172,7 +173,7 @@ used_passed routes used new all k so_far within is made =
     ap (λ l. l ++ used_from routes (k + 1)) made
     ∙ (ap (λ l. used ++ l) (sym (used_more routes k within ∙ ap (λ b. cond b ((k + 1) ∷ used_from routes (k + 1)) (used_from routes (k + 1))) is)) ∙ so_far)
 
--- after the used part no vehicle is used
+-- if no vehicle after `front` has a stop, none of n vehicles from a later one on is used
 unused : (routes : List (List ℕ)) (front a n : ℕ) → front < a → AreIdleAfter front routes → filter (is_used routes) (range_with_len a n) ≡ []
 unused routes front a zero above idle = refl
 unused routes front a (suc n) above idle =

@@ -1,5 +1,5 @@
--- Requests inserted one after another: a lower bound of the cost of the plan with all of them, and which plans
--- are not near.
+-- Requests inserted one after another: a lower bound of the cost of the plan with all of them. If plans of this
+-- cost are not near, neither is that plan.
 use Rattle.std.proofs.Common.{◌≡◌, ℕ, zero, suc, ◌+◌, ◌-◌, ◌<◌, Bool, true, false, List, [], ◌∷◌, ◌++◌, ◌==◌, cond, length, drop, get_or, Option, Some, None, refl, sym, ap, subst, ◌∙◌, arith}
 use Rattle.std.specs.Prelude.{sum_by}
 use Rattle.std.specs.Option.{option_map}
@@ -69,7 +69,7 @@ module _ (law : PlacementsSaveLittle) (p : Instance) (pins : List (List ℕ)) (v
 
 -- ---- a candidate made from the result of a removal
 module _ (p : Instance) (pins : List (List ℕ)) (deviation : ℕ) (best : Cost) (f : List (List ℕ) → List (List ℕ)) where
-  -- after a removal, inserting the requests makes the candidate, or shows that it is far
+  -- after a removal, inserting these requests makes the candidate, or shows that the candidate is far
   pub placed_near : (answer : Option (List (List ℕ))) (done made : Bool) (old left new : DraftState) (names : List ℕ) → IsMade answer done old left → done ≡ true
       → draft_of old ≡ base_of old → base_of left ≡ base_of old
       → f (draft_of left) ≡ placed_all p pins (draft_of left) names → AreAllPlacedOrFar p pins deviation best names made left new → IsMadeIfNear p deviation best (option_map f answer) made old new
@@ -82,7 +82,7 @@ module _ (p : Instance) (pins : List (List ℕ)) (deviation : ℕ) (best : Cost)
         far = λ no. subst (λ plan. is_near deviation (cost_of p plan) best ≡ false) here (all.far no);
       }
 
--- if requests are removed, they are inserted again, and then those that were unplanned before
+-- if requests are removed, these are inserted again, and then the requests that were unplanned before
 pub recreated_some : (p : Instance) (pins routes : List (List ℕ)) (words names : List ℕ) → names ≡ ruined_names p pins routes words → (length names == 0) ≡ false
     → recreated_by p pins routes words ≡ option_map (λ left. placed_all p pins left (names ++ unplanned_names p routes)) (removed p pins routes names)
 recreated_some p pins routes words names drawn some =

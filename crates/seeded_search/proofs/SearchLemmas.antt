@@ -83,7 +83,7 @@ use Rattle.seeded_search.specs.declared.search_state.SearchState.{SearchState}
 use Rattle.plan_types.specs.declared.plans.Plan.{Plan}
 use Rattle.seeded_search.specs.StepLaws.{RelocatedNeverCostMore, StepsAddUp, BothPass, StepsKeepPassing, IncumbentsNeverCostMore, IsWorkingNear, WorkingStaysNear}
 
--- the result of a chain of options
+-- if `option_and_then f o` is some value, `o` is some x, and `f x` is that value
 pub and_then_some : {X Y : Type 0} (f : X → Option Y) (o : Option X) (y : Y) → option_and_then f o ≡ Some y → (x : X) × (o ≡ Some x) × (f x ≡ Some y)
 and_then_some f None y is = absurd (none_some y is)
 and_then_some f (Some x) y is = (x, refl, is)
@@ -195,7 +195,7 @@ module _ (p : Instance) (pins : List (List ℕ)) where
       let u = and_then_some _ (picked v (movable_names p pins routes)) y t.2 in
       exchanged_passes routes t.0 u.0 y u.2
 
-  -- the plan that the words make from the vehicles that they pick
+  -- 2-opt* of the vehicles a and b, cut as words 3 and 4 say
   abbrev second_vehicle : List (List ℕ) → List ℕ → ℕ → ℕ → Option (List (List ℕ))
   second_vehicle routes words a b = crossed p pins routes a (cut_by pins routes a (slice_index words 3)) b (cut_by pins routes b (slice_index words 4))
 
@@ -243,7 +243,7 @@ module _ (p : Instance) (pins : List (List ℕ)) where
     unfolding step
     step_passes n s both = moved_passes (step_words seed n) s both (candidate p pins s.working (step_words seed n)) refl
 
-    -- the incumbent of a step costs no more
+    -- the incumbent after a step costs no more than before it
     step_cost : CostsAreTotal → (n : ℕ) (s : SearchPlans) → IsTrue (cost_at_most (cost_of p (step p pins deviation seed n s).incumbent) (cost_of p s.incumbent))
     unfolding step
     step_cost total n s = by (candidate p pins s.working (step_words seed n))
@@ -355,7 +355,7 @@ module _ (p : Instance) (deviation : ℕ) (s : SearchPlans) (c : List (List ℕ)
       by : (b t : Bool) → b ≡ false → t ≡ false → s ≡ search_plans (cond b c s.incumbent) (cond t c s.working)
       by b t e f = rw e (rw f refl)
 
--- the search continues from its candidate
+-- after the candidate became the working plan, the search state is valid
 pub accepted_search_state : (p : Instance) (pins : List (List ℕ)) (old new : SearchState) → HasNewWorkingPlan p pins old new → passes p pins old.incumbent.routes ≡ true → old.best ≡ cost_of p old.incumbent.routes
     → AreIdleAfter old.used_len old.incumbent.routes → AreNearestStopLists p old.spatial_index → IsSearchState p pins new
 accepted_search_state p pins old new h pass best idle spatial_index =
@@ -373,7 +373,7 @@ accepted_search_state p pins old new h pass best idle spatial_index =
       settled = h.settled ∙ sym h.base;
     }
 
--- the working plan may be marked as the incumbent
+-- the search state stays valid if `is_at_incumbent` is set while the working plan is the incumbent
 pub noted_walk : (p : Instance) (pins : List (List ℕ)) (w : SearchState) (at : Bool) → IsSearchState p pins w → (IsTrue at → w.incumbent.routes ≡ base_of w.draft) → IsSearchState p pins (record w { is_at_incumbent = at })
 noted_walk p pins w at is same = record {
   keeps = record {
@@ -388,12 +388,12 @@ noted_walk p pins w at is same = record {
   settled = is.settled;
 }
 
--- if a move made a draft, it is the plan of the move
+-- if a move was made, the draft is the plan of the move
 pub made_some : (answer : Option (List (List ℕ))) (made : Bool) (old new : DraftState) → IsMade answer made old new → made ≡ true → answer ≡ Some (draft_of new)
 made_some None made old new h is = absurd (both_ways made h.0 is)
 made_some (Some routes) made old new h is = ap (λ x. Some x) (sym h.1)
 
--- the case in which the draft is the base again
+-- a search state whose draft is the base again is valid with this draft
 pub stayed_walk : (p : Instance) (pins : List (List ℕ)) (w : SearchState) (draft : DraftState) (spatial_index : SpatialIndex) → IsSearchState p pins w → AreNearestStopLists p spatial_index → IsDraftOf p pins draft → base_of draft ≡ base_of w.draft
     → draft_of draft ≡ draft_of w.draft → IsSearchState p pins (record w { draft = draft; spatial_index = spatial_index })
 stayed_walk p pins w draft spatial_index is nearest_stops drafted base same = record {

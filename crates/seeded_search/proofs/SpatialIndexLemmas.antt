@@ -1,4 +1,5 @@
--- Lists of nearest stops that were not made yet, and the eastings so far.
+-- Lists of nearest stops that were not made yet are valid. The eastings of stops, collected number by number and
+-- then sorted, are those of all stops.
 use Rattle.std.proofs.Common.{◌≡◌, ℕ, ◌+◌, ◌<◌, ◌++◌, [], ◌∷◌, List, All, Option, Some, None, refl, sym, ap, subst, ◌∙◌, inl, inr, arith, Vec, Global, slice_get}
 use Rattle.std.specs.Prelude.{IfSome, IsSome}
 use Rattle.std.specs.List.{Contains}
@@ -22,7 +23,7 @@ none_made p nearest_stops all k = elim (slice_get_cases nearest_stops k).1 [
   | inr none ↦ subst (λ o. IfSome o (λ front. IsNearestStopListOf p k front.items)) (sym none.1) tt
 ]
 
--- ---- the eastings of one more number
+-- ---- the eastings of the stops so far, with the stop of one more number
 module _ (p : Instance) where
   none_yet : All (IsEasting p) []
   none_yet = λ k d low. absurd (omega arith)

@@ -11,7 +11,7 @@ use Rattle.seeded_search.specs.Words.{block, word, step_words}
 use Rattle.seeded_search.specs.Generator.{NextStep, before_step, next_step_of, IsBeforeStep, next_words}
 use Rattle.seeded_search.proofs.BlockLemmas.{length-block, word_same}
 
--- a list whose items are those of a function at n consecutive numbers
+-- a list of n items is `f` at the n numbers from `a` on, if item k is `f (a + k)`
 pub listed : (f : ℕ → ℕ) (a n : ℕ) (xs : List ℕ) → length xs ≡ n → ((k : ℕ) → k < n → get_or xs k 0 ≡ f (a + k)) → xs ≡ map f (range_with_len a n)
 listed f a n xs long h =
     ext_get_or 0 xs _ (long ∙ sym (length-map-range_with_len f a n)) (λ k lt. let below : k < n = omega arith in h k below ∙ sym (get_or-map-range_with_len f a n k (a + k) 0 below refl))

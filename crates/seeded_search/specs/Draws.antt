@@ -1,7 +1,8 @@
 -- Several draws from a list, one after another, without a copy of it.
 use Rattle.std.specs.Prelude.{ℕ, ◌+◌, ◌<◌, nat_le, List, [], ◌∷◌, length, remove, if◌then◌else◌}
 
--- the rest of a list after removals; the indices are those in the rest at that time, the newest first
+-- the rest of a list after items are removed one by one, by their indices. Each index counts in the rest before its
+-- removal; the newest index comes first
 abbrev pub left_of : List ℕ → List ℕ → List ℕ
 left_of [] xs = xs
 left_of (i ∷ older) xs = remove (left_of older xs) i

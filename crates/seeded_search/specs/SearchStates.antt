@@ -45,7 +45,8 @@ IsMadeIfNear p deviation best answer made old new =
     MatchOption answer ((made ≡ false) × (draft_of new ≡ draft_of old)) (λ routes. IsMadeOrFar p deviation best routes made old new)
 
 -- the outlook of a draft of this cost into which one request is inserted and then `following` more, which save at
--- most `rest`: it leaves too many requests unplanned, or uses too many vehicles, or is near only below a bound
+-- most `rest`. `Far`: the draft leaves too many requests unplanned or uses too many vehicles. `Below`: the draft is
+-- near in the end only if the next request adds less distance than this bound
 abbrev pub IsOutlook : ℕ → Cost → Cost → ℕ → ℕ → Outlook → Type 0
 IsOutlook deviation best cost following rest Far =
     (best.unplanned + following + 1 < cost.unplanned) ⊎ ((cost.unplanned ≡ best.unplanned + following + 1) × (best.vehicles < cost.vehicles))

@@ -6,8 +6,8 @@ use Rattle.route_sched.specs.Cost.{cost_of}
 use Rattle.plan_audit.specs.Passes.{passes}
 use Rattle.seeded_search.specs.Steps.{relocated, SearchPlans, steps}
 
--- a search of some kind, by problem, pins, deviation and seed: the plans that a number of steps, from a first
--- step on, make from both plans
+-- a search of some kind: what it makes of both plans, given the problem, the pins, the deviation, the seed, the
+-- number of the first step and the number of steps
 abbrev pub Search : Type 0
 Search = Instance → List (List ℕ) → ℕ → ℕ → ℕ → ℕ → SearchPlans → SearchPlans
 

@@ -21,7 +21,7 @@ pub fn is_near(deviation: u32, cost: &Cost, best: &Cost) -> bool
     cost.distance.saturating_sub(best.distance) <= u64::from(deviation)
 }
 
-/// The threshold for a candidate: its cost has to be near that of a plan, by `is_near`.
+/// The threshold that a candidate passes if its cost is near that of a given plan, by `is_near`.
 #[derive(Clone, Copy)]
 pub struct Threshold<'a> {
     /// The greatest additional distance.
@@ -56,7 +56,7 @@ impl Threshold<'_> {
 
     /// Returns the outlook of a draft of this cost into which one request is inserted and then `following` more,
     /// which save at most `rest` of the distance. If the draft may still end with fewer unplanned requests than
-    /// `best`, or if it uses fewer vehicles, it may be near wherever they are inserted.
+    /// `best`, or with as many and fewer vehicles, it may be near wherever the next request is inserted.
     pub(crate) fn outlook(&self, cost: &Cost, following: u64, rest: u128) -> Outlook
         ensures { IsOutlook self.now.deviation self.now.best.now cost.now following rest result }
     {

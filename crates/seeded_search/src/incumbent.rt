@@ -27,8 +27,8 @@ pub(crate) fn copy_draft(
     Ok(())
 }
 
-// Returns the number of vehicles that may have stops, if no vehicle after `used_len` has stops in one plan, and
-// none after `other` in the other plan.
+// Returns how many routes have to be compared. No vehicle after `used_len` has stops in one plan, and none after
+// `other` in the other plan.
 fn reach(routes: &Routes, used_len: u64, other: u64) -> usize
     ensures within { result ≤ length routes.now }
     ensures enough { (v : ℕ) → result < v → v ≤ length routes.now → (used_len < v) × (other < v) }

@@ -51,7 +51,7 @@ pub(crate) fn make(
     }
 }
 
-// Removes a request and inserts it at its best place, unless the draft is then far from the incumbent.
+// Removes a request and inserts it at its best place, unless the draft would then be far from the incumbent.
 #[tactic(auto, using(crate::proofs::SearchLemmas::made_near))]
 fn relocate(
     problem: &Problem,
@@ -81,7 +81,7 @@ fn relocate(
     place_all_if_near(problem, pins, draft, &[name], near)
 }
 
-// Exchanges two requests, unless the draft is known to be far from the incumbent then.
+// Exchanges two requests, unless it is known that the draft would then be far from the incumbent.
 #[tactic(auto, using(crate::proofs::SearchLemmas::made_near, crate::proofs::SearchLemmas::foreseen_far))]
 fn exchange(
     problem: &Problem,
@@ -113,7 +113,7 @@ fn exchange(
     draft.exchange(problem, pins, a, b)
 }
 
-// Exchanges the ends of two routes, unless the draft is known to be far from the incumbent then.
+// Exchanges the ends of two routes, unless it is known that the draft would then be far from the incumbent.
 #[tactic(auto, using(crate::proofs::SearchLemmas::made_near, crate::proofs::SearchLemmas::foreseen_far))]
 fn cross(
     alloc: Global,
@@ -147,7 +147,8 @@ fn cross(
     draft.cross(problem, pins, a, a_cut, b, b_cut)
 }
 
-// Returns after how many stops the word cuts the route of a vehicle; never within its pin.
+// Returns the number of stops before the cut that the word makes in the vehicle's route. The cut is never within
+// the pin.
 fn cut(pins: &Pins, draft: &Draft, vehicle: u64, word: u32) -> u64
     ensures { result ≡ cut_by pins.now.routes (draft_of draft.now) vehicle word }
 {
@@ -157,7 +158,7 @@ fn cut(pins: &Pins, draft: &Draft, vehicle: u64, word: u32) -> u64
 }
 
 // Removes requests, then inserts each of them and each that was unplanned before at its best place, unless the
-// draft is far from the incumbent then.
+// draft would then be far from the incumbent.
 #[tactic(auto, using(crate::proofs::SearchLemmas::made_near))]
 fn recreate(
     alloc: Global,

@@ -67,8 +67,8 @@ pub fn place_all_if_near(
     Ok(true)
 }
 
-// Inserts a request at its best place, unless the draft is then far, wherever the `following` requests after it are
-// inserted, which save at most `rest`.
+// Inserts a request at its best place, and returns whether it did. It does not if the draft would then be far from
+// the threshold, wherever the `following` later requests are inserted. These save at most `rest`.
 fn place_if_near(
     problem: &Problem,
     pins: &Pins,

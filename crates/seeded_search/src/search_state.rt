@@ -138,8 +138,8 @@ impl SearchState {
         self.accept(problem, pins, &cost)
     }
 
-    /// Makes the candidate, which costs `cost`, the incumbent. If it is known to be the incumbent already, no
-    /// route is read.
+    /// Makes the candidate, which costs `cost`, the incumbent. If the candidate is known to be the incumbent
+    /// already, no route is read.
     pub fn improve(
         &mut self,
         alloc: Global,
@@ -167,7 +167,8 @@ impl SearchState {
         Ok(())
     }
 
-    /// Makes the candidate, which costs `cost`, the working plan. It is then not known to be the incumbent.
+    /// Makes the candidate, which costs `cost`, the working plan. The working plan is then not known to be the
+    /// incumbent.
     pub fn accept(&mut self, problem: &Problem, pins: &Pins, cost: &Cost) -> Result<(), OutOfMemory>
         requires draft { IsDraftOf problem.now pins.now.routes self.old.draft }
         requires lists { AreListsOf problem.now pins.now.routes

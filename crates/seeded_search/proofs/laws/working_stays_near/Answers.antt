@@ -1,5 +1,5 @@
--- The new working plan is within the deviation of the incumbent, or is the new incumbent. So the working plan
--- stays near it.
+-- The new working plan is within the deviation of the incumbent, or is itself the new incumbent. So it stays near
+-- the incumbent.
 use Rattle.seeded_search.proofs.SearchLemmas.{working_stays_near}
 use Rattle.seeded_search.proofs.laws.working_stays_near.Goals as goal
 

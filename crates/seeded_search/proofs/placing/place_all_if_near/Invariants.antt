@@ -1,5 +1,5 @@
--- Inserting the remaining requests into the draft so far makes the plan with all. Their number is counted, and
--- the greatest saving by them is their sum.
+-- Inserting the remaining requests into the draft so far makes the plan with all requests. `following` is the
+-- number of the remaining requests, and `rest` the greatest distance that they can save.
 use Rattle.std.proofs.Common.{◌≡◌, ◌+◌, drop, length}
 use Rattle.std.specs.Prelude.{sum_by}
 use Rattle.move_ops.specs.Drafts.{base_of, draft_of, IsDraftOf}

@@ -1,5 +1,5 @@
--- If no request is unplanned before and after the change, or if the draft is the base, the present lists are
--- those of the new base.
+-- If no request is unplanned before and after the change, or if the draft is the base, the lists of the old base
+-- are also those of the new one.
 use Rattle.std.proofs.Common.{rules, ◌≡◌, [], length, sym, subst, ◌∙◌}
 use Rattle.std.proofs.lemmas.List.{nil_from_length}
 use Rattle.route_sched.specs.Cost.{unplanned_count}
@@ -34,7 +34,7 @@ returns-then-is_empty c =
       spatial_index = search rules;
     }
 
--- the present plan is accepted once more
+-- if the draft is the base, the lists are kept
 pub returns-then-is_base : goal.returns-then-is_base
 returns-then-is_base c =
     let p = c.args.problem.now in
