@@ -23,7 +23,7 @@ use Rattle.anneal_search.specs.StepLoops.{ruined, HasImproved, IsAnnealing}
 
 -- ---- the candidate
 module _ (p : Instance) (pins routes : List (List ℕ)) (words : List ℕ) where
-  -- Inserting requests again into the rest of the plan makes the candidate
+  -- Inserting the requests again into the plan that is left makes the candidate
   pub candidate_is : option_map (recreated p pins (slice_index words 2)) (ruined p pins routes words) ≡ candidate p pins routes words
   unfolding candidate
   candidate_is = by (length (ruined_names p pins routes words) == 0) (removed p pins routes (ruined_names p pins routes words))
@@ -75,7 +75,7 @@ module _ (p : Instance) (pins : List (List ℕ)) (old improved new : SearchState
     work = cost_is ∙ ap (cost_of p) (sym base_is);
   }
 
--- A candidate that is near is accepted
+-- A candidate that is near the working plan is accepted
 pub near_follows : (p : Instance) (deviation : ℕ) (s : SearchPlans) (c : List (List ℕ)) (cost work : Cost) → cost ≡ cost_of p c → work ≡ cost_of p s.working → is_near deviation cost work ≡ true
     → accepted p s c ≡ annealed p deviation s c
 near_follows p deviation s c cost work cost_is work_is near =

@@ -81,7 +81,7 @@ counted_next names i xs new all within is so_far =
     let there : i + 1 ≡ suc i = omega arith in
     ap (λ k. counted new (drop k names)) there ∙ ap (λ l. counted l (drop (suc i) names)) is ∙ ap (counted xs) (sym (drop-cons names i 0 within)) ∙ so_far
 
--- No more requests are left out than there are
+-- A plan leaves out at most 40,000 requests, since a problem has no more
 pub few_left : (p : Instance) (routes : List (List ℕ)) (names missing : List ℕ) → IsInstance p → HoldLeftOut p routes missing → names ≡ left_out p routes missing → length names ≤ 40000
 few_left p routes names missing valid held is =
     let test = (λ (e : ℕ × Request). not (is_planned routes e.1)) in
@@ -92,7 +92,7 @@ few_left p routes names missing valid held is =
     let d = count_by-le-length test p.requests in
     omega (arith, a, b, c, d, few_requests p valid)
 
--- One more step adds at most one to each counter
+-- If each counter is at most 40,001 times the number of steps made, this still holds after one more step
 pub few_then : (p : Instance) (routes : List (List ℕ)) (made : ℕ) (names missing xs new : List ℕ) → IsInstance p → HoldLeftOut p routes missing
     → names ≡ left_out p routes missing → AreAtMost (40001 * made) xs → new ≡ counted xs names
     → AreAtMost (40001 * (made + 1)) new

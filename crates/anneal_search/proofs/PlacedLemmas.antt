@@ -1,4 +1,4 @@
--- A request that is inserted into a plan is planned then, like all that were planned before
+-- After a request is inserted into a plan, it is planned, and so are all requests that were planned before
 use Rattle.std.proofs.Common.{◌≡◌, ℕ, ◌+◌, ◌||◌, true, false, not, List, [], ◌∷◌, length, Option, Some, None, unwrap_or, refl, sym, subst, inl, inr, arith}
 use Rattle.std.specs.List.{concat}
 use Rattle.std.specs.Option.{option_and_then}
@@ -18,7 +18,7 @@ use Rattle.move_ops.proofs.Times.{some_same, times}
 use Rattle.seeded_search.specs.Steps.{placed_all}
 use Rattle.seeded_search.proofs.SearchLemmas.{and_then_some, then_some}
 
--- The number of times that a number occurs after a request is inserted
+-- After a request is inserted, a number occurs as often as in the plan before and in the request together
 times_then : (n : ℕ) (pins routes : List (List ℕ)) (r : Request) (x : Insertion) → is_place_of pins routes r x ≡ true
     → times n (concat (with_request_at routes r x)) ≡ times n (numbers_of r) + times n (concat routes)
 times_then n pins routes r x at =

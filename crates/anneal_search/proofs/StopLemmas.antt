@@ -20,7 +20,7 @@ use Rattle.anneal_search.proofs.BoundLemmas.{none_beyond}
 not_zero : (n : ℕ) → 1 ≤ n → eqb n 0 ≡ false
 not_zero n h = grind (arith, h)
 
--- No request has a stop 0
+-- No request has a stop with number 0
 zero_in : (es : List (ℕ × Request)) → AllByRecursion (λ e. IsRequest e.1) es → first_some (stop_in 0) es ≡ None
 zero_in [] h = refl
 zero_in ((n, Single s) ∷ es) h = rw (not_zero s.number h.0.0.from_one) (zero_in es h.1)
@@ -38,7 +38,7 @@ module _ (p : Instance) (valid : IsInstance p) where
   unfolding place
   stop_there route k = subst (λ i. stop_numbered p (slice_index (0 ∷ route) i) ≡ unwrap_or (stop_at p (slice_index route k)) p.depot) (sym (add-one k)) (numbered (slice_index route k))
 
--- If each stop is farther away than the limit, none is found
+-- If each stop of a route is farther away than the limit, no stop is found
 pub none_found : (p : Instance) (center : Stop) (vehicle k : ℕ) (limit : NearStop) (ns : List ℕ)
     → ((j : ℕ) → j < length ns → limit.distance < distance center (unwrap_or (stop_at p (slice_index ns j)) p.depot))
     → found_from p center vehicle (Some limit) None k ns ≡ None
@@ -46,7 +46,7 @@ none_found p center vehicle k limit [] far = refl
 none_found p center vehicle k limit (n ∷ ns) far =
     rw (none_beyond (near p center vehicle k n) limit (far 0 (omega arith))) (none_found p center vehicle (k + 1) limit ns (λ j below. far (suc j) (omega arith)))
 
--- A stop that is found has its number
+-- A stop that is found by number n has number n
 pub stop_known : (p : Instance) (n : ℕ) (o : Option (Bor Stop)) → option_copied o ≡ stop_at p n
     → IfSome o (λ s. (s.now.number ≡ n) × IsStop s.now × (n < p.next_number)) → IfSome o (λ s. stop_at p s.now.number ≡ Some s.now)
 stop_known p n None found is = tt

@@ -10,8 +10,8 @@ alone = refl
 whole : cut_of 10 (2 ^ 32 - 1) 4 2 ≡ record { first = 0; end = 4; kept = None }
 whole = refl
 
--- A string around the third of five stops removes two of them. The rest of the word draws that one stop within
--- it stays, and the position of the string.
+-- A string around the third of five stops removes two of them. By the rest of the word, one more stop inside the
+-- string stays, and the string begins at the first stop.
 split : cut_of 3 (2 ^ 31) 5 2 ≡ record { first = 0; end = 3; kept = Some 1 }
 split = refl
 
@@ -30,7 +30,7 @@ short_routes = refl
 long_routes : route_count 10 (2 ^ 32 - 1) ≡ 3
 long_routes = refl
 
--- The mean length of a route of three stops and one of two, and of no routes
+-- The mean length of a route of three stops and one of two, rounded down; and 0 if no route has stops
 mean : longest ((1 ∷ 2 ∷ 3 ∷ []) ∷ [] ∷ (4 ∷ 5 ∷ []) ∷ []) ≡ 2
 mean = refl
 

@@ -18,8 +18,8 @@ module _ (p : Instance) (pins : List (List ℕ)) where
   abbrev pub recreated : ℕ → List (List ℕ) → List (List ℕ)
   recreated w left = placed_all p pins left (ordered p w (unplanned_names p left))
 
-  -- The candidate that the words make of a plan, if there is one: requests are removed at once, and all are
-  -- inserted again
+  -- The candidate that the words make of a plan, if there is one: the requests of the strings are removed all at
+  -- once, and then all unplanned requests are inserted
   unfoldable pub candidate : List (List ℕ) → List ℕ → Option (List (List ℕ))
   candidate routes words =
       let names = ruined_names p pins routes words in

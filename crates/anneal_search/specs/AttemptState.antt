@@ -39,8 +39,8 @@ abbrev pub begun : Instance → List (List ℕ) → ℕ → AttemptState
 begun p routes n = record { incumbent = routes; working = routes; absences = replicate p.next_number 0; step = n }
 
 -- The candidate is acceptable: it leaves out fewer requests than the working plan, or the counters of the
--- requests that it leaves out have a smaller sum. If number and sum are equal, its distance may be greater by
--- the deviation.
+-- requests that it leaves out have a smaller sum. If number and sum are equal, its distance may be greater by at
+-- most the deviation.
 abbrev pub is_acceptable : Instance → ℕ → List ℕ → List (List ℕ) → List (List ℕ) → Bool
 is_acceptable p deviation absences c w =
     let a = cost_of p c in

@@ -30,7 +30,7 @@ abbrev pub found_within : Option NearStop → Option NearStop → Option NearSto
 found_within limit None = None
 found_within limit (Some a) = within limit a
 
--- The greatest distance of a nearer stop
+-- The greatest distance that a stop nearer than the limit can have
 abbrev pub reach_of : Option NearStop → Option ℕ
 reach_of None = None
 reach_of (Some a) = Some a.distance

@@ -65,7 +65,7 @@ fn count_once(absences: &mut [u64], name: u32)
     }
 }
 
-/// Returns how often these requests were left out in all.
+/// Returns the sum of the absence counters of these requests.
 pub(crate) fn weight(absences: &[u64], names: &[u32]) -> u128
     ensures { result ≡ weight absences.now names.now }
 {

@@ -155,8 +155,8 @@ impl Attempt {
         self.settle(alloc, problem, pins, deviation, &missing)
     }
 
-    // Replaces the plans that the candidate replaces, and counts the requests that it leaves out. They are all
-    // among `missing_names`.
+    // Replaces the plans that the candidate replaces, and counts the requests that it leaves out. The names of all
+    // these requests are in `missing`.
     fn settle(
         &mut self,
         alloc: Global,

@@ -19,8 +19,8 @@ use seeded_search::{RequestLists, SpatialIndex, Threshold, place_all, place_all_
 use std::alloc::Global;
 
 /// Turns the draft into the candidate of these words, if there is one: removes the requests of some strings and
-/// inserts all unplanned ones again. Returns the names of all requests that were unplanned before the
-/// insertions; those that the draft still leaves out are among them.
+/// inserts all unplanned ones. Returns the names of all requests that were unplanned before the insertions. The
+/// requests that the draft still leaves out are among them.
 pub(crate) fn make(
     alloc: Global,
     problem: &Problem,
@@ -52,7 +52,7 @@ pub(crate) fn make(
 }
 
 /// Like `make`, but the candidate has to pass the threshold `near`. The draft is discarded as soon as it is
-/// known that the candidate will not. Returns whether there is a candidate.
+/// known that the candidate will not pass it. Returns whether there is a candidate.
 pub(crate) fn make_candidate_near(
     alloc: Global,
     problem: &Problem,

@@ -11,8 +11,8 @@ pub fn strings_lie_around()
     ensures { StringsLieAround }
 {}
 
-/// Proves that the nearest stop of a route is one of its stops, that none is nearer, and that each route with
-/// stops has one.
+/// Proves that the nearest stop of a route is one of its stops, that none of them is nearer, and that each route
+/// with stops has a nearest stop.
 pub fn nearest_stop_is_closest()
     ensures { NearestStopIsClosest }
 {}
@@ -46,7 +46,7 @@ pub fn annealing_never_costs_more()
 }
 
 /// Proves that an attempt leads from plans that pass to plans that pass, and makes at most the given number of
-/// steps. If that is not 0 and its plan leaves a request out, it makes at least one.
+/// steps. If this number is not 0 and the first plan leaves a request out, the attempt makes at least one step.
 pub fn attempts_keep_passing()
     ensures passing { AttemptsKeepPassing }
     ensures short { AttemptsAreBounded }

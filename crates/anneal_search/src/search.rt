@@ -92,8 +92,8 @@ pub struct Annealing {
 }
 
 impl Annealing {
-    /// Begins annealing of `count` steps from a search state. If they are many, lists of nearest stops are made
-    /// when they are needed.
+    /// Begins annealing of `count` steps from a search state. If there are enough steps, lists of nearest stops are
+    /// made when they are needed.
     pub(crate) fn begin(
         alloc: Global,
         problem: &Problem,
@@ -197,8 +197,8 @@ impl Annealing {
     }
 }
 
-// Returns whether this many steps save more than sorting all stops costs, which is less than one step for each
-// hundred stops.
+// Returns whether the steps save more than it costs to sort all stops: whether there is at least one step for every
+// sixteen stop numbers. Sorting takes less time than one step for every hundred stops.
 fn nearest_stops_pay_off(problem: &Problem, count: u64) -> bool {
     u64::from(problem.next_number) / 16 <= count
 }

@@ -142,8 +142,8 @@ fn totals_of(draft: &Draft) -> Totals
 }
 
 // Returns the number of routes to cut. Christiaens and Vanden Berghe cut between 1 and 4 * 10 / (1 + longest)
-// routes, to remove about ten stops on average. Here it is 1 plus a number drawn below 4 * 10 - (1 + longest),
-// divided by 1 + longest and rounded down, and at most 12.
+// routes, to remove about ten stops on average. Here a number below 4 * 10 - (1 + longest) is drawn, divided by
+// 1 + longest and rounded down. One more route than this is cut, but at most 12.
 fn route_count(longest: usize, word: u32) -> usize
     requires { longest ≤ 10 }
     ensures value { result ≡ route_count longest word }
@@ -254,8 +254,8 @@ fn movable_of(
     Ok(names)
 }
 
-// Returns the request of a stop if it is movable. Since the stop is planned, so is its request; only its pins
-// have to be checked.
+// Returns the request of a stop if it is movable. Since the stop is planned, so is its request; it only has to be
+// checked that none of its stops is pinned.
 fn movable_at(problem: &Problem, pins: &Pins, draft: &Draft, stop: u32) -> Option<u32>
     requires draft { IsDraftOf problem.now pins.now.routes draft.now }
     requires planned { has_stop (draft_of draft.now) stop ≡ true }

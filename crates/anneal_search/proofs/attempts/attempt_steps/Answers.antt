@@ -1,5 +1,5 @@
--- After one more step of the attempt, the remaining steps lead to the result of all; if none remains, or no
--- request is left out, the result is reached
+-- After one more step of the attempt, the remaining steps lead to the result of all steps. If no step remains, or
+-- no request is left out, the result is reached
 use Rattle.std.proofs.Common.{rules, ◌≡◌, ◌+◌, ◌-◌, ◌<◌, ◌==◌, true, false, sym, ap, ◌∙◌, arith}
 use Rattle.std.proofs.lemmas.Bool.{not-false, not-true}
 use Rattle.plan_types.specs.declared.plans.Plan.{Plan}

@@ -1,4 +1,4 @@
--- The remaining steps of the attempt lead to the result of all steps; each step leaves fewer
+-- The remaining steps of the attempt lead to the result of all steps. After each step, fewer remain
 use Rattle.std.proofs.Common.{◌≡◌, ◌+◌, ◌-◌, ◌≤◌}
 use Rattle.anneal_search.specs.AttemptSteps.{IsAttempt, attempt_state}
 use Rattle.anneal_search.specs.AttemptState.{begun, attempt_steps}

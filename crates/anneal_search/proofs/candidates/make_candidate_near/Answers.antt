@@ -1,5 +1,5 @@
 -- If requests are removed, inserting all unplanned ones in the drawn order makes the candidate of the step or
--- shows that it is too far. Otherwise there is none.
+-- shows that it is too far. Otherwise there is no candidate.
 use Rattle.std.proofs.Common.{rules, ◌≡◌, is_some, true, false, IfOk, slice_index, sym, ap, subst, ◌∙◌}
 use Rattle.std.proofs.lemmas.Result.{IfOk-weaker}
 use Rattle.move_ops.specs.Drafts.{draft_of, IsMade}

@@ -1,5 +1,5 @@
--- After one more annealing step, the remaining steps lead to the result of all; if none remains, the result is
--- reached
+-- After one more annealing step, the remaining steps lead to the result of all steps. If no step remains, the
+-- result is reached
 use Rattle.std.proofs.Common.{rules, ◌≡◌, ◌+◌, ◌-◌, ◌<◌, sym, ap, ◌∙◌, arith}
 use Rattle.seeded_search.specs.Generator.{NextStep}
 use Rattle.seeded_search.specs.SearchStates.{search_plans_of}

@@ -1,5 +1,5 @@
--- The candidate that is made is the one of the working plan, so settling it leads to the result of the
--- definition's step
+-- The candidate that is made is the definition's candidate of the working plan. So `settle` leads to the result of
+-- the definition's step
 use Rattle.std.proofs.Common.{rules, ◌≡◌, ℕ, true, is_some, Some, sym, ap, ◌∙◌}
 use Rattle.std.proofs.lemmas.Result.{on_ok_weaker}
 use Rattle.move_ops.specs.Drafts.{base_of, draft_of}

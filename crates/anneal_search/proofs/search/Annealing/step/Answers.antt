@@ -1,5 +1,5 @@
--- A candidate that is made replaces what the step's candidate would. Without one, or with one that is too far,
--- nothing changes.
+-- If the draft becomes a candidate, it is the candidate of the definition, so it replaces the same plans. Without
+-- a candidate, or with one that is too far, nothing changes.
 use Rattle.std.proofs.Common.{rules, ◌≡◌, Some, sym, ap, ◌∙◌}
 use Rattle.std.proofs.lemmas.Result.{on_ok_weaker}
 use Rattle.move_ops.specs.Drafts.{base_of, draft_of}
