@@ -1,4 +1,4 @@
--- Attempts one after another: what each keeps, and that they end.
+-- Attempts one after another: the properties that each attempt preserves, and that the attempts end.
 use Rattle.std.proofs.Common.{
   ◌≡◌,
   ◌∙◌,
@@ -143,7 +143,7 @@ module _ (p : Instance) (pins : Routes) (pinned : length pins ≡ p.fleet) (t : 
       by true e none = e
       by false e none = absurd (none_some (replicate p.fleet true) (sym none))
 
-  -- if the plan leaves requests unplanned, the attempt begins with it
+  -- if the plan leaves requests unplanned, the attempt begins with all routes of the plan
   pub begins_whole : serves_all p t.plan ≡ false → (marks : List Bool) → subfleet p pins t ≡ Some marks → picked marks t.plan ≡ t.plan
   begins_whole lacks marks found =
       let same : replicate p.fleet true ≡ marks =
@@ -190,7 +190,7 @@ module _ (laws : Order) (p : Instance) (lilim : p.kind ≡ LiLim) where
       ((laws.tells (cost_of p plan) (cost_of p found)).1 (inl (let h = none_out plan b in let g = some_out found a in omega (arith, h, g))))
 
 -- ---- one turn
--- the properties of the next state
+-- the properties of the state after one attempt, or after `size` is halved
 pub record IsTurn (p : Instance) (pins : Routes) (end : ℕ) (t new : Attempts) : Type 0 where
   pub plan : passes p pins new.plan ≡ true
   pub first : t.step ≤ new.step
@@ -281,7 +281,7 @@ module _ (laws : Below) (p : Instance) (pins : Routes) (pinned : length pins ≡
     sized : (a b : Bool) → serves_all p t.plan ≡ a → serves_all p back ≡ b → after_it.size ≡ cond (a && not b) (t.size / 2) t.size
     sized a b e f = ap (λ x. cond (x && not (serves_all p back)) (t.size / 2) t.size) e ∙ ap (λ x. cond (a && not x) (t.size / 2) t.size) f
 
-    -- the plan decides which requests are unplanned
+    -- if the state after the attempt has this plan, it serves all requests exactly if the plan does
     whole_then : (plan : Routes) → after_it.plan ≡ plan → serves_all p after_it.plan ≡ serves_all p plan
     whole_then plan same = ap (serves_all p) same
 
@@ -359,7 +359,7 @@ module _ (laws : Below) (p : Instance) (pins : Routes) (pinned : length pins ≡
       by (Some marks) e = some_turn marks e
 
 -- ---- all attempts
--- the remaining attempts have the same result as all
+-- the remaining attempts from state t have the same result as all attempts
 pub record AtAttempts (p : Instance) (pins : Routes) (seed count end : ℕ) (all t : Attempts) : Type 0 where
   pub going : IsBetweenAttempts p pins end t
   pub rest : ℕ

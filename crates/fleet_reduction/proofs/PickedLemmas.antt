@@ -1,4 +1,5 @@
--- Plans of marked vehicles, and of all vehicles again, pass.
+-- If a plan passes, its routes of the marked vehicles pass as a plan of just these vehicles. A plan of these vehicles,
+-- put back as a plan of all vehicles, passes as well.
 use Rattle.std.proofs.Common.{◌≡◌, ◌∙◌, ℕ, zero, suc, ◌+◌, ◌<◌, ◌≤◌, Bool, true, false, cond, drop, get_or, not, ◌==◌, List, [], ◌∷◌, ◌++◌, All, length, Some, refl, sym, ap, subst, arith}
 use Rattle.std.specs.List.{concat}
 use Rattle.std.proofs.Math.Seq.{drop-cons}

@@ -24,8 +24,8 @@ first_attempts routes step = record { plan = routes; step = step; size = max 1 (
 abbrev pub serves_all : Instance → List (List ℕ) → Bool
 serves_all p routes = unplanned_count p routes == 0
 
--- the step before which the next attempt ends, of `count` steps that end before step `end`: if the plan has all
--- requests and the attempt leaves several vehicles out, it has an eighth of the steps
+-- the step before which the next attempt ends. The `count` steps of all attempts end before step `end`. If the plan
+-- has all requests (`whole`) and the attempt leaves several vehicles out, it has at most an eighth of these steps
 abbrev pub limit : Bool → ℕ → ℕ → Attempts → ℕ
 limit whole count end t = if whole && nat_lt 1 t.size then min end (t.step + count / 8) else end
 
@@ -64,7 +64,7 @@ module _ (p : Instance) (pins : List (List ℕ)) where
   abbrev pub next : ℕ → ℕ → ℕ → Attempts → Attempts
   next seed count end t = next_by seed count end t (subfleet t)
 
-  -- steps remain, and an attempt leaves vehicles out
+  -- steps remain, and the number of vehicles to leave out is not yet 0
   abbrev pub can_continue : ℕ → Attempts → Bool
   can_continue end t = nat_lt t.step end && nat_lt 0 t.size
 
@@ -78,11 +78,11 @@ module _ (p : Instance) (pins : List (List ℕ)) where
   abbrev pub max_attempts : ℕ → Attempts → ℕ
   max_attempts count t = count + (p.fleet + 1 + t.size)
 
-  -- the attempts; there are none if vehicles do not count
+  -- the state after the attempts; for `Vrp`, where vehicles do not count, there are none
   abbrev pub attempts_of : Kind → ℕ → ℕ → Attempts → Attempts
   attempts_of LiLim seed count t = attempts_from seed count (t.step + count) (max_attempts count t) t
   attempts_of Vrp seed count t = t
 
-  -- the attempts within `count` steps, from a plan and a first step on
+  -- the state after the attempts within `count` steps, beginning with this step and this plan
   abbrev pub all_attempts : ℕ → ℕ → ℕ → List (List ℕ) → Attempts
   all_attempts seed count step routes = attempts_of p.kind seed count (first_attempts routes step)

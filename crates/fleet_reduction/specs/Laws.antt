@@ -27,8 +27,8 @@ pub record IsSmallSubfleet (pins : List (List ℕ)) (count : ℕ) (subfleet : Li
 abbrev pub KeptAreSubfleets : Type 0
 KeptAreSubfleets = (pins routes : List (List ℕ)) (count : ℕ) → length pins ≡ length routes → used_count pins ≤ count → IsSmallSubfleet pins count (kept pins routes count)
 
--- law: a plan of the marked vehicles, put back at their numbers, passes with the pins, if only these vehicles
--- have one
+-- law: if only the marked vehicles have a pin, a plan of these vehicles, put back at their numbers, passes with the
+-- pins
 abbrev pub PutBackPass : Type 0
 PutBackPass = (p : Instance) (pins routes : List (List ℕ)) (kept : List Bool) → length kept ≡ p.fleet → ArePinsOf kept pins
     → passes (with_fleet p (marked kept)) (picked kept pins) routes ≡ true → passes p pins (put_back kept routes) ≡ true
@@ -54,7 +54,7 @@ abbrev pub AttemptsKeepPlans : Type 0
 AttemptsKeepPlans = (p : Instance) (pins routes : List (List ℕ)) (seed count step : ℕ) → length pins ≡ p.fleet → IsFleet p.fleet → passes p pins routes ≡ true
     → AreAttempts p pins count step (all_attempts p pins seed count step routes)
 
--- law: the plan that the attempts find never costs more
+-- law: the plan that the attempts find never costs more than the plan that they begin with
 abbrev pub AttemptsNeverCostMore : Type 0
 AttemptsNeverCostMore = (p : Instance) (pins routes : List (List ℕ)) (seed count step : ℕ)
     → IsTrue (cost_at_most (cost_of p (all_attempts p pins seed count step routes).plan) (cost_of p routes))

@@ -12,8 +12,8 @@ use Rattle.fleet_reduction.specs.declared.attempts.ReductionState.{ReductionStat
 abbrev pub attempts_by : ReductionState → Attempts
 attempts_by r = record { plan = r.plan.routes; step = r.step; size = r.size }
 
--- some of the vehicles, among them all with a pin; if the plan leaves no request out, these are fewer vehicles
--- than the plan uses
+-- some of the vehicles; all vehicles with a pin are among them. If the plan leaves no request out, they are fewer
+-- than the vehicles that the plan uses
 pub record IsSubfleet (p : Instance) (pins : List (List ℕ)) (t : Attempts) (subfleet : List Bool) : Type 0 where
   pub long : length subfleet ≡ p.fleet
   pub some : IsFleet (marked subfleet)

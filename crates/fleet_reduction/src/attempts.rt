@@ -177,7 +177,7 @@ fn subfleet(
     Ok(Some(marks))
 }
 
-// Returns the step before which the next attempt ends. An attempt that leaves several vehicles out has an
+// Returns the step before which the next attempt ends. An attempt that leaves several vehicles out has at most an
 // eighth of all steps.
 fn limit(whole: bool, attempts: &ReductionState, count: u32, end: u64) -> u64
     requires below { attempts.now.step < end }
@@ -264,8 +264,8 @@ fn after_attempt<R: Log>(
     })
 }
 
-// Returns how many vehicles the attempt could have: those of the plan, or all if the plan leaves requests
-// unplanned.
+// Returns from how many vehicles those of the attempt are chosen: those that the plan uses, or all if the plan
+// leaves requests unplanned.
 fn vehicles_before(problem: &Problem, whole: bool, plan: &Plan) -> u64 {
     if whole {
         used_count(plan.routes.as_slice())

@@ -5,9 +5,9 @@ use anneal_search::attempts_keep_passing;
 use plan_audit::feasibility_is_local;
 use plan_types::costs_are_totally_ordered;
 
-/// States that the routes of some vehicles of a plan that passes pass, with their pins, in a fleet of just
+/// States that, if a plan passes, the routes of some of its vehicles pass, with their pins, in a fleet of just
 /// these vehicles. If only these vehicles have pins, a plan of theirs passes when it is put back at their
-/// numbers, and it uses no more vehicles.
+/// numbers. It then uses at most as many vehicles as these.
 pub fn picked_pass()
     ensures picked { PickedPass }
     ensures back { PutBackPass }
@@ -30,7 +30,7 @@ pub fn attempts_keep_plans()
     attempts_keep_passing();
 }
 
-/// States that the plan that the attempts find never costs more.
+/// States that the plan that the attempts find never costs more than the plan that they begin with.
 pub fn attempts_never_cost_more()
     ensures { AttemptsNeverCostMore }
 {

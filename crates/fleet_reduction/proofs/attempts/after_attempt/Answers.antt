@@ -1,5 +1,5 @@
--- After an attempt the state has the cheaper plan, the attempt's step, and half the size if the attempt's plan
--- leaves requests unplanned and the plan before did not.
+-- After an attempt the state has the cheaper plan and the number of the step after the attempt. The size is halved
+-- if the attempt's plan leaves requests unplanned and the plan before did not.
 use Rattle.std.proofs.Common.{◌∙◌, ◌/◌, ◌&&◌, cond, not, ap}
 use Rattle.plan_types.specs.Cost.{cost_at_most}
 use Rattle.plan_types.specs.declared.plans.Plan.{Plan}

@@ -1,4 +1,4 @@
--- Each attempt leaves fewer steps, and the remaining attempts lead to the same end.
+-- Each attempt lowers `attempts_left`, and the remaining attempts lead to the same result.
 use Rattle.std.proofs.Common.{◌∙◌, ◌+◌, ap, arith}
 use Rattle.fleet_reduction.specs.ReductionStates.{attempts_by}
 use Rattle.fleet_reduction.specs.Attempts.{max_attempts, attempts_from}

@@ -1,4 +1,4 @@
--- The remaining attempts lead to the result of all.
+-- The remaining attempts lead to the result of all attempts.
 use Rattle.std.proofs.Common.{◌≡◌, ◌+◌, ◌≤◌}
 use Rattle.fleet_reduction.specs.Attempts.{max_attempts, attempts_from}
 use Rattle.fleet_reduction.specs.ReductionStates.{attempts_by, attempts_left}

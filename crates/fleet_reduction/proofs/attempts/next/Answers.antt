@@ -1,5 +1,5 @@
--- The attempt's vehicles are valid; its plan, put back, has current stops, each once; and the state after it is
--- that of the definition.
+-- The attempt's vehicles are valid. Its plan, put back for all vehicles, has current stops, each once. The state
+-- after the attempt is that of the definition.
 use Rattle.std.proofs.Common.{rules, ◌≡◌, ◌∙◌, Some, sym, ap, subst}
 use Rattle.std.specs.List.{concat}
 use Rattle.std.proofs.lemmas.Result.{IfOk-weaker}

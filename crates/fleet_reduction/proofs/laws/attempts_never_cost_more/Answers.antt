@@ -1,4 +1,4 @@
--- The plan that the attempts find never costs more.
+-- The plan that the attempts find never costs more than the plan that they begin with.
 use Rattle.fleet_reduction.proofs.AttemptLemmas.{attempts_never_cost_more}
 use Rattle.fleet_reduction.proofs.laws.attempts_never_cost_more.Goals as goal
 

@@ -1,4 +1,4 @@
--- If at most the requested number of vehicles have a pin, the kept vehicles are at most that many and include
+-- If at most `count` vehicles have a pin, at most `count` vehicles are kept, and all vehicles with a pin are among
 -- them.
 use Rattle.fleet_reduction.proofs.SubfleetLemmas.{kept_are_subfleets}
 use Rattle.fleet_reduction.proofs.laws.kept_are_subfleets.Goals as goal

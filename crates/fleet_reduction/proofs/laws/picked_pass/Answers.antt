@@ -1,5 +1,5 @@
--- Picked routes pass in their own fleet. Put back at their numbers they pass with the pins, and use no more
--- vehicles.
+-- Picked routes pass in a fleet of just their vehicles. A plan put back at the numbers of these vehicles passes with
+-- the pins, and uses at most as many vehicles as are marked.
 use Rattle.fleet_reduction.proofs.PickedLemmas.{picked_pass, put_back_pass, put_back_use_fewer}
 use Rattle.fleet_reduction.proofs.laws.picked_pass.Goals as goal
 
