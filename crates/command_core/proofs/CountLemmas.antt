@@ -74,7 +74,7 @@ standing P (x ∷ xs) all n some = elim (eqb_tells n x) [
   | inr t ↦ (let e = none_here n x t.0 in standing P xs all.1 n (omega arith))
 ]
 
--- If a property holds for all items of joined lists, it holds for each of them
+-- If a property holds for all items of two joined lists, it holds for all items of each list
 all_parts : (P : ℕ → Type 0) (xs ys : List ℕ) → AllByRecursion P (xs ++ ys) → AllByRecursion P xs × AllByRecursion P ys
 all_parts P [] ys all = (tt, all)
 all_parts P (x ∷ xs) ys all = let rest = all_parts P xs ys all.1 in ((all.0, rest.0), rest.1)

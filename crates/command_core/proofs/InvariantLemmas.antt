@@ -56,7 +56,7 @@ pub record LowerLaws : Type 0 where
 refused : {X : Type 0} (r : Refusal) → Some r ≡ None → X
 refused r h = absurd (let g = h in cc)
 
--- If a sequence of tests refuses nothing, its first test passed, and so did the rest
+-- If a sequence of tests refuses nothing, its first test passed, and so did the later tests
 asked : (b : Bool) (r : Refusal) (o : Option Refusal) → cond (not b) (Some r) o ≡ None → (b ≡ true) × (o ≡ None)
 asked true r o none = (refl, none)
 asked false r o none = refused r none
@@ -77,7 +77,7 @@ loaded_job p seed valid within = record {
   steps = omega arith;
 }
 
--- Replacing both plans by ones that pass, and the number of steps, keeps the invariants of a job
+-- Replacing both plans by plans that pass, and replacing the number of steps, keeps the invariants of a job
 with_plans : (j : JobValue) → IsJob j → (plan work : List (List ℕ)) → passes j.problem j.pins plan ≡ true → passes j.problem j.pins work ≡ true → (steps : ℕ) → steps ≤ 2 ^ 60
     → IsJob (record j { plan = plan; work = work; steps = steps })
 with_plans j is plan work plan_passes work_passes steps within = record {

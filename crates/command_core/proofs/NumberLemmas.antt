@@ -1,4 +1,4 @@
--- Next numbers ascend, the fields of an accepted command fit a record, and its steps are counted
+-- Only a Load lowers the next number, the fields of an accepted command fit a record, and its steps are counted
 use Rattle.std.proofs.Common.{◌≡◌, ℕ, ◌+◌, ◌≤◌, nat_le, Bool, true, false, not, cond, List, [], ◌∷◌, ◌++◌, Option, Some, None, refl, arith}
 use Rattle.std.specs.List.{list_all}
 use Rattle.std.proofs.lemmas.Bool.{and_parts, leb-true}
@@ -21,7 +21,7 @@ rise_from_less : (n m : ℕ) (xs : List ℕ) → n ≤ m → AscendFrom m xs →
 rise_from_less n m [] less rise = tt
 rise_from_less n m (x ∷ xs) less rise = ((let h = rise.0 in omega arith), rise.1)
 
--- The stop numbers that a command assigns come before those of later commands
+-- The stop numbers that a command assigns are below those that later commands assign
 given_first : (j : JobValue) (c : Command) (xs : List ℕ) → is_load c ≡ false → AscendFrom (job_after j c).problem.next_number xs → AscendFrom j.problem.next_number (assigned_by j c ++ xs)
 given_first j (Load p seed) xs not_load rise = absurd (let h : true ≡ false = not_load in cc)
 given_first j (Add q a b) xs not_load rise = (omega arith, (omega arith, rise_from_less _ _ xs (omega arith) rise))

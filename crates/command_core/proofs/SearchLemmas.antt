@@ -51,7 +51,7 @@ no_annealing j = let e : j.steps + 0 ≡ j.steps = omega arith in ap (λ n. with
 clash : {X : Type 0} → false ≡ true → X
 clash h = absurd (let g = h in cc)
 
--- The effect of the command on a job is that of its steps
+-- If `is_one` accepts the command, its effect on a job is what `made` makes of the job with the command's steps
 abbrev Makes : Command → (Command → Bool) → (JobValue → ℕ → JobValue) → Type 0
 Makes c is_one made = is_one c ≡ true → (j : JobValue) → job_after j c ≡ made j (steps_of c)
 

@@ -23,7 +23,7 @@ use Rattle.move_ops.proofs.Times.{none_some, some_same, times, times-append, onc
 use Rattle.command_core.proofs.CountLemmas.{standing, at_most_once, distinct_from, all_standing, all_split, all_joined, times_front}
 use Rattle.command_types.proofs.PassLemmas.{parts_of, from_parts, Agree, feasible_same, all_feasible_same, live_same}
 
--- If a number of the request is in a list, the request is planned
+-- If one of the lists has a stop of the request, the request is planned
 planned_by : (lists : List (List ℕ)) (r : Request) (n : ℕ) → is_some (stop_in n r) ≡ true → has_stop lists n ≡ true → is_planned lists r ≡ true
 planned_by lists (Single s) n is had = by (eqb s.number n) refl is
   where
@@ -80,7 +80,7 @@ module _ (p : Instance) (name : ℕ) (valid : IsInstance p) where
     same = λ n kept. law p name n valid (λ named. let h : true ≡ false = sym (of_named n named) ∙ kept.1 in cc);
   }
 
-  -- If a request is not pinned, none of its stops is in a pin
+  -- If a stop number belongs to the request with this name, that request has a stop with this number
   name_found : RequestsAreStoredByName → (r : Request) → request_named p name ≡ Some r → (n : ℕ) → name_at p n ≡ Some name → is_some (stop_in n r) ≡ true
   name_found law r named n at = by (request_with p n) refl at
     where
@@ -91,6 +91,7 @@ module _ (p : Instance) (name : ℕ) (valid : IsInstance p) where
           let same : q ≡ r = some_same q r (sym found ∙ ap (λ m. request_named p m) (some_same (request_name q) name is) ∙ named) in
           subst (λ s. is_some (stop_in n s) ≡ true) same (has_found n p.requests q e)
 
+  -- If a request is not pinned, none of its stops is in a pin
   pub pins_others : RequestsAreStoredByName → (pins : List (List ℕ)) (r : Request) → request_named p name ≡ Some r → is_planned pins r ≡ false → AllByRecursion (AllByRecursion IsOther) pins
   pins_others law pins r named free = all_split IsOther pins (all_standing IsOther (concat pins) (λ n stands. by n stands (is_of_named p (name ∷ []) n) refl))
     where

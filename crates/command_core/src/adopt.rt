@@ -13,8 +13,8 @@ use plan_audit::passing_is_local;
 use plan_types::{Pins, Plan, Problem, costs_compare_lexicographically};
 use route_sched::plan_cost;
 
-/// Returns why this plan may not replace the incumbent, if it may not. Allocates nothing; the time is that of
-/// `is_passing`.
+/// Returns why this plan may not replace the incumbent, or `None` if it may. Allocates nothing, and takes as long
+/// as `is_passing`.
 pub(crate) fn adopt_refusal(
     problem: &Problem,
     pins: &Pins,

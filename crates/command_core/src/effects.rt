@@ -118,7 +118,8 @@ fn begin(alloc: Global, command: &Command) -> Result<CommandOutcome, Refusal>
     }
 }
 
-// Executes a command on a job. Only the commands that continue the search get its state.
+// Executes a command on a job. `Search`, `Checkpoint` and `Anneal` keep the search state; any other command drops
+// it.
 fn execute_on_job<R: Log>(
     rt: &R,
     alloc: Global,

@@ -1,7 +1,7 @@
 //! Inserting requests into a plan in place.
 //!
-//! One draft of the plan is built, and each insertion is accepted at once. So no plan is copied, no change is
-//! kept, and the next request reuses the memory of the old route.
+//! One draft of the plan is built, and each insertion is accepted before the next one. So no plan is copied, and
+//! each insertion reuses the memory of the route that the previous one replaced.
 ghost use Rattle.std.specs.Prelude.{◌≡◌, true, IfOk};
 ghost use Rattle.plan_audit.specs.Passes.{passes};
 ghost use Rattle.seeded_search.specs.Steps.{placed_all};

@@ -13,8 +13,8 @@ use plan_types::{OutOfMemory, Plan, Problem, Route, Routes, take_removes_one_req
 use std::alloc::Global;
 
 /// Removes the request from the problem and the plan. If the rest of its route is infeasible, only the pinned
-/// prefix stays. The time is linear in the problem and the plan, except that `is_feasible` searches for the
-/// pairs of that route.
+/// prefix stays. The time is linear in the problem and the plan, except that `is_feasible` looks for the other
+/// stop of each pair in that route.
 pub(crate) fn withdraw(alloc: Global, job: &Job, name: u32) -> Result<Job, Refusal>
     requires { job_refusal job.now (Command.Withdraw name) ≡ None }
     ensures ok { IfOk result (λ new. new ≡ withdrawn job.now name) }

@@ -15,7 +15,7 @@ fn no_stops(alloc: Global, vehicles: u32) -> Result<Routes, OutOfMemory>
     Ok(lists)
 }
 
-/// The lists of a job. Functions of their own build them, so that an early return there has no problem to drop.
+/// The lists of a job. Separate functions build them: if one of these returns early, it has no `Problem` to drop.
 #[derive(Drop)]
 pub struct JobLists {
     pub pins: Pins,

@@ -1,8 +1,8 @@
 //! The state of a planner: empty, or a job.
 //!
 //! The fields of a job are public. Decoders build a job with `Job::from_parts`, which requires the invariants
-//! of the type. The working plan may be any plan that passes the auditor; `seeded_search` proves that a working
-//! plan within the deviation stays within it.
+//! of the type. The working plan may be any plan that passes the auditor; `seeded_search` proves that, if it is
+//! within the deviation of the incumbent, a search keeps it there.
 ghost use Rattle.std.specs.Prelude.{◌≡◌, IfOk};
 ghost use Rattle.command_types.specs.Job.{IsJob};
 

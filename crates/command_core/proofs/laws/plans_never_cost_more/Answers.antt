@@ -1,4 +1,4 @@
--- The plan costs no more than any plan since the last change of requests or pins
+-- The plan costs no more than at any moment since the last change of requests or pins
 use Rattle.command_core.proofs.RunLemmas.{plans_never_cost_more}
 use Rattle.command_core.proofs.laws.plans_never_cost_more.Goals as goal
 

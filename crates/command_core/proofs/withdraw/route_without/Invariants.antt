@@ -1,4 +1,4 @@
--- The stops kept so far and those kept of the rest make up the result
+-- The stops kept so far, followed by those kept of the remaining stops, make up the result
 use Rattle.std.proofs.Common.{◌≡◌, ◌++◌, drop}
 use Rattle.command_core.specs.Effects.{route_without}
 use Rattle.command_core.proofs.withdraw.route_without.Given as goal
