@@ -1,6 +1,6 @@
 //! A slow reference for the search: it makes each step a second time, by the table of operators and with moves
-//! that return whole plans. After each step both plans must be those of `search_step`, and at the end those of
-//! `search_steps`.
+//! that return whole plans. After each step, the incumbent and the working plan must be those of `search_step`, and
+//! at the end those of `search_steps`.
 //!
 //! A line of standard input is one search: a format, the path of an instance, whether its first plan is `best`
 //! or `spread`, a seed, the number of pinned stops of each route, a deviation, the number of the first step,

@@ -171,7 +171,7 @@ impl StepInput<'_> {
         Ok(plan)
     }
 
-    // Returns the plan after inserting the requests that the working plan leaves out. The drawn ones were
+    // Returns the plan after inserting the requests that the working plan leaves out. The drawn requests were
     // inserted before.
     fn with_others(&self, alloc: Global, plan: Plan) -> Result<Plan, OutOfMemory> {
         let problem = self.problem;
@@ -211,7 +211,7 @@ fn picked(word: u32, things: usize) -> usize {
     ((u128::from(word) * things as u128) >> 32) as usize
 }
 
-// Returns a cut after the pin.
+// Returns the number of stops before the cut that the word picks. The cut is never within the pin.
 fn cut(pins: &Pins, work: &Plan, index: usize, word: u32) -> u64 {
     let stops = match work.routes.as_slice().get(index) {
         Some(route) => route.as_slice().len(),

@@ -1,4 +1,4 @@
--- Known numbers in ascending order are known and distinct.
+-- If numbers ascend, and each belongs to a stop, they are known and distinct.
 use Rattle.std.proofs.Common.{◌≡◌, ℕ, ◌<◌, Bool, true, false, List, [], ◌∷◌, arith}
 use Rattle.std.specs.Prelude.{◌&&◌, ◌≤◌, is_some, nat_eq, nat_lt}
 use Rattle.std.specs.List.{AllByRecursion, IsDistinct}

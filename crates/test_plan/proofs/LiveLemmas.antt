@@ -1,4 +1,4 @@
--- If a loop finds all stops known and distinct, they are.
+-- If each number belongs to a stop and differs from all later ones, the numbers are known and distinct.
 use Rattle.std.proofs.Common.{◌≡◌, ℕ, ◌<◌, Bool, true, false, List, [], ◌∷◌, length, refl, arith}
 use Rattle.std.specs.Prelude.{◌&&◌, ◌||◌, is_some, nat_eq, not}
 use Rattle.std.specs.List.{AllByRecursion, IsDistinct, list_any}
@@ -38,7 +38,7 @@ holds p (n ∷ ns) is =
 pub is_live_once : (p : Instance) (ns : List ℕ) → live_once p ns ≡ true → AreDistinctStops p ns
 is_live_once p ns is = let found = holds p ns is in record { live = All-from_recursion (IsKnownStop p) ns found.live; distinct = found.distinct }
 
--- if no numbers are left, all have passed
+-- if no numbers are left, the test passes
 pub none_left : (p : Instance) (ns : List ℕ) → length ns < 1 → live_once p ns ≡ true
 none_left p [] h = refl
 none_left p (n ∷ ns) h = absurd (omega arith)

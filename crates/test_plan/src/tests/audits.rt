@@ -244,7 +244,7 @@ fn count(seen: &mut [u32], verdict: Verdict) {
     }
 }
 
-// Returns whether the slow auditor has the same verdict on the plan of a case.
+// Returns whether both auditors have the same verdict on the plan of a case.
 fn plans_agree(alloc: Global, case: &Case, seen: &mut [u32]) -> Result<bool, Fail> {
     let verdict = audit(alloc, &case.problem, &case.pins, &case.plan)?;
     count(seen, verdict);
@@ -255,7 +255,7 @@ fn plans_agree(alloc: Global, case: &Case, seen: &mut [u32]) -> Result<bool, Fai
     )
 }
 
-// Returns whether the slow auditor has the same verdict on the routes of a case as a printed solution.
+// Returns whether both auditors have the same verdict on the routes of a case, taken as a printed solution.
 fn prints_agree(alloc: Global, case: &Case, seen: &mut [u32]) -> Result<bool, Fail> {
     let length = total_length(&case.problem, &case.tasks, case.plan.routes.as_slice());
     let cost = length.saturating_add(case.more);

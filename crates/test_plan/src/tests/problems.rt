@@ -178,7 +178,7 @@ fn reuses_a_free_number(rt: HostRuntime) -> Result<(), Fail> {
     Ok(())
 }
 
-// Returns whether the partner of each stop has the neighboring number.
+// Returns whether the partner of each stop has the neighbouring number.
 fn stand_in_pairs(problem: &Problem) -> bool {
     for number in 1..=MAX_STOP_NUMBER {
         let partner = if number % 2 == 1 {

@@ -53,8 +53,8 @@ pub(crate) struct Task {
     pub name: u32,
 }
 
-/// A problem with its stops, a plan with its pins, and the amount by which the printed cost exceeds its
-/// distance.
+/// A problem with its stops, a plan with its pins, and the amount by which the printed cost exceeds the distance
+/// of the plan.
 #[derive(Drop)]
 pub(crate) struct Case {
     pub problem: Problem,

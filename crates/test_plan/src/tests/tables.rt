@@ -146,16 +146,16 @@ fn build_fixture(alloc: Global, which: Fixture) -> Result<Problem, Fail> {
     }
 }
 
-// Returns a problem in which stop 2 lies between the depot and stop 1, and the rounded distance over it is
-// shorter than the direct one.
+// Returns a problem in which stop 2 lies between the depot and stop 1. By rounded distances, the way via stop 2 is
+// shorter than the direct leg.
 fn stop_on_the_way(alloc: Global) -> Result<Problem, Fail> {
     let requests = [single(1, (2, 2), 1, 100), single(2, (1, 1), 1, 100)];
     problem_of(alloc, Kind::Vrp, depot_until(100), 10, 1, &requests)
 }
 
 // Returns a problem with stops 1, 2 and 3 on a line, ten apart. The delivery of the pair 4 and 5 lies between 2
-// and 3. There are four other customers: the demand of one exceeds the free capacity of the vehicle, and one
-// lies far off the line, as does a pair.
+// and 3. There are four other customers: the demand of stop 8 exceeds the free capacity of the vehicle, and stop 9
+// lies far off the line, as does the pair 10 and 11.
 fn long_line(alloc: Global) -> Result<Problem, Fail> {
     let near = stop_at(4, (5, 0), 1, 100, 0);
     let far = stop_at(10, (20, 1000), 1, 100, 0);
@@ -473,8 +473,8 @@ fn takes_another_route(rt: HostRuntime) -> Result<(), Fail> {
     Ok(())
 }
 
-// Returns whether a table that was built for no stop can be rebuilt for the largest route, to all customers and
-// back.
+// Returns whether a table that was built for an empty route can be rebuilt for the largest route, which visits all
+// customers.
 fn becomes_largest(alloc: Global) -> Result<bool, Fail> {
     let route = route_between(alloc, 1, 40_000)?;
     let problem = most_customers(alloc)?;
@@ -487,7 +487,7 @@ fn becomes_the_largest_table(rt: HostRuntime) -> Result<(), Fail> {
     Ok(())
 }
 
-// Returns whether start, load and latest start at a place are these.
+// Returns whether start, load and latest start at a place are the given ones.
 fn is_known(
     table: &RouteTable,
     place: usize,
@@ -503,7 +503,7 @@ fn is_known(
         && table.latest_start(place) == latest_start
 }
 
-/// A place of the route of the first pair, its start, load and latest start.
+/// A place of the route of the first pair, and the start, the load and the latest start there.
 const KNOWN: [(usize, u64, i64, Option<u64>); 4] = [
     (0, 0, 0, Some(49)),
     (1, 1, 1, Some(50)),
@@ -575,8 +575,8 @@ fn has_room(table: &RouteTable) -> bool {
     table.max_demand() == 7
 }
 
-// Returns whether the table of the line rules out requests, returns its stops, is beyond a reach, and has free
-// capacity.
+// Returns four checks of the table of the line: of the requests that it rules out, of its stops, of the reach that
+// it is beyond, and of its free capacity.
 fn table_checks(problem: &Problem, table: &RouteTable) -> [bool; 4] {
     [
         are_ruled_out(problem, table),

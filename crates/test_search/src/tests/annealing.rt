@@ -48,7 +48,7 @@ const CUSTOMERS: TestProblem = TestProblem::Customers(
     ],
 );
 
-/// Fifteen customers, each of whom fills a vehicle, so that twelve routes of one stop are cut.
+/// Fifteen customers, each of whom fills a vehicle, so that a step can cut twelve routes of one stop.
 const ALONE: TestProblem = TestProblem::Customers(
     1,
     15,
@@ -212,7 +212,7 @@ const BY_HAND: [Example; 7] = [
         StepRange::Anneal(0, 0, (0, 20)),
         &[0, 0],
     ),
-    // One vehicle with one stop: it returns to its place.
+    // One vehicle with one stop: the stop returns to its place.
     (
         TestProblem::Customers(10, 1, &[(0, 10, 1)]),
         &[],
@@ -250,13 +250,13 @@ const PAIR_NAMES: &[u32] = &[1, 3, 5, 7, 9, 11];
 
 const ORDERS: [Order; 9] = [
     (FOUR, 0, FOUR_NAMES, &[1, 2, 3, 4]),
-    // The key is only the salt, by which greater names come first.
+    // All keys are equal. By the salts of this word, greater names come first.
     (FOUR, 0x0fff_ffff, FOUR_NAMES, &[4, 3, 2, 1]),
-    // The farthest first. The first two are equally far, so two different salts order them.
+    // The farthest first. Customers 1 and 2 are equally far, so the salts of the two words order them.
     (FOUR, 0x8000_0000, FOUR_NAMES, &[1, 2, 3, 4]),
     (FOUR, 0x8fff_ffff, FOUR_NAMES, &[2, 1, 3, 4]),
-    // The other keys: first the nearest, the greatest demand, the narrowest window, the earliest pickup, the
-    // latest delivery.
+    // The other keys put first, row by row: the nearest, the greatest demand, the narrowest windows, the earliest
+    // pickup, the latest delivery.
     (FOUR, 0xa000_0000, FOUR_NAMES, &[4, 3, 1, 2]),
     (PAIRS, 0x4000_0000, PAIR_NAMES, &[7, 3, 9, 1, 5, 11]),
     (PAIRS, 0xb000_0000, PAIR_NAMES, &[5, 3, 1, 7, 11, 9]),
@@ -264,7 +264,7 @@ const ORDERS: [Order; 9] = [
     (PAIRS, 0xf000_0000, PAIR_NAMES, &[11, 9, 3, 1, 7, 5]),
 ];
 
-// Returns whether the word picks the order; false if the problem has no stop 1.
+// Returns whether the word picks the expected order; `false` if the problem has no stop 1.
 fn is_ordered(alloc: Global, order: &Order) -> Result<bool, Fail> {
     let problem = problem_of(alloc, order.0)?;
     is_order_of(alloc, &problem, order)
@@ -286,7 +286,7 @@ fn orders(rt: HostRuntime) -> Result<(), Fail> {
     Ok(())
 }
 
-// Makes two steps one by one, beginning with this one, and returns the routes of both plans.
+// Makes two steps one by one, beginning with step number `step`, and returns the routes of both plans.
 fn step_by_step(alloc: Global, case: &Case, step: u64) -> Result<Vec<u32>, Fail>
     requires passing { passes case.now.problem case.now.pins.routes case.now.plan.routes ≡ true }
     requires step { step + 1 < 2 ^ 60 }

@@ -105,7 +105,7 @@ const PAIRS: [(i32, i32, i32, u32, u32); 12] = [
     (31, -6, -2, 50, 300),
 ];
 
-// Returns the stop with this index of the pairs, with a service time of 5.
+// Returns the stop at this index of `PAIRS`, with a service time of 5.
 fn paired(index: usize) -> Stop {
     match PAIRS.get(index) {
         Some((x, y, demand, earliest, latest)) => Stop {

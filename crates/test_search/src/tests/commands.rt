@@ -12,7 +12,7 @@ mod sizes;
 /// A command on a loaded state.
 #[derive(Clone, Copy)]
 enum TestCommand {
-    /// A stop at the depot, with a window that ends at 9.
+    /// The addition of a single at the depot, with a window that ends at 9.
     AddOne,
     Withdraw(u32),
     Pin(u32, u32),

@@ -12,8 +12,8 @@ use std::test::Fail;
 /// Three customers on a line, with a fleet of two.
 const LINE: TestProblem = TestProblem::Customers(10, 2, &[(1, 0, 1), (2, 0, 1), (3, 0, 1)]);
 
-/// A problem, whether vehicles count, pins, a plan, a number of steps, the plan after them, and how many were
-/// made.
+/// A problem, whether vehicles count, pins, a plan, the greatest number of steps, the plan after them, and how many
+/// steps were made.
 type Row = (
     TestProblem,
     Kind,
@@ -45,8 +45,8 @@ const REDUCED: [Row; 5] = [
         &[0, 2, 3, 1, 0],
         1,
     ),
-    // The vehicle with a pin is kept though its route is no longer than the other one. Then nothing is movable
-    // in its route.
+    // The vehicle with a pin is kept, though its route is shorter than the other one. Then nothing is movable in
+    // its route.
     (
         LINE,
         Kind::LiLim,
@@ -58,7 +58,7 @@ const REDUCED: [Row; 5] = [
     ),
     // An empty plan has nothing movable, so the attempt with all vehicles fails.
     (LINE, Kind::LiLim, &[0, 0], &[0, 0], 7, &[0, 0], 7),
-    // Three vehicles cannot serve four customers who each fill one.
+    // Three vehicles cannot serve four customers who each fill a vehicle.
     (
         FOUR_BY_ONE,
         Kind::LiLim,
@@ -122,8 +122,8 @@ const NOT_REDUCED: [Row; 5] = [
     ),
 ];
 
-// Returns the plan after this many steps of attempts, and how many were made, or `None` if there are too few
-// pins or the plan does not pass.
+// Returns the plan after attempts of at most `count` steps, and how many steps were made. Returns `None` if the
+// number of pins differs from the fleet, or if the plan does not pass.
 fn tried(alloc: Global, case: &Case, count: u32) -> Result<Option<(Vec<u32>, u64)>, Fail> {
     let pinned = case.pins.routes.as_slice().len();
     if pinned != case.problem.fleet as usize || !case.is_passing(alloc)? {

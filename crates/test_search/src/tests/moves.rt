@@ -16,15 +16,15 @@ mod tables;
 
 #[derive(Clone, Copy)]
 enum Move {
-    /// A request, and the vehicle and the places of its pickup and delivery.
+    /// A request, and its insertion: the vehicle, and the places of the pickup and the delivery.
     Insert(u32, (u64, u64, u64)),
     Remove(&'static [u32]),
     Exchange(u32, u32),
     Cross(u64, u64, u64, u64),
 }
 
-/// A problem, pins and a plan, and moves, each with the resulting plan, or nothing if there is none. Each pin
-/// and each route ends with a 0.
+/// A problem, pins, a plan, and moves. Each move has the resulting plan, which is empty if the move is not possible.
+/// Each pin and each route ends with a 0.
 type Example = (
     TestProblem,
     &'static [u32],

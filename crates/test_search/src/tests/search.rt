@@ -96,7 +96,7 @@ fn first_found(alloc: Global, case: &Case) -> Result<Vec<u32>, Fail> {
     stops
 }
 
-// Returns whether the first step finds the better plan, as incumbent and working plan.
+// Returns whether the first step finds the expected better plan, as incumbent and working plan.
 fn is_bettered(alloc: Global) -> Result<bool, Fail> {
     let case = case_of(alloc, FOUR, &[], &[1, 0, 2, 3, 0, 4, 0, 0])?;
     let found = first_found(alloc, &case);
@@ -141,8 +141,8 @@ const EXAMPLES: [Example; 6] = [
         StepRange::Search(1, (0, 1)),
         &[1, 0, 2, 0, 3, 0, 1, 0, 0, 3, 2, 0],
     ),
-    // Without a movable request only the ends of routes are exchanged; with pins of whole routes there are no
-    // ends.
+    // Without a movable request only the stops after two cuts can be exchanged. If the pins are whole routes, no
+    // stop is after a cut.
     (
         BY_TWO,
         &[1, 3, 0, 2, 0],

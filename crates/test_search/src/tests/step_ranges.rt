@@ -64,7 +64,8 @@ fn steps_of(alloc: Global, case: &Case, walk: StepRange) -> Result<Option<Found>
     Ok(Some(found))
 }
 
-/// Returns the plans that steps find from one plan as incumbent and working plan; nothing if it does not pass.
+/// Returns the plans that steps find from one plan as incumbent and working plan; nothing if that plan does not
+/// pass.
 pub(crate) fn found(alloc: Global, case: &Case, walk: StepRange) -> Result<Vec<u32>, Fail> {
     if !case.is_passing(alloc)? {
         return Ok(Vec::new(alloc));

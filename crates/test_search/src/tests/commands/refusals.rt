@@ -21,7 +21,7 @@ const COUNT_REFUSALS: [(TestCommand, Option<Refusal>); 9] = [
     (TestCommand::Reduce(524_289), Some(Refusal::Range)),
 ];
 
-// Returns the refusal on which `check` and `apply` agree.
+// Returns the refusal on which `check` and `apply` agree, if they do.
 fn refusal(alloc: Global, state: &State, step: TestCommand) -> Option<Refusal> {
     refusal_by_both(alloc, state, &command(step))
 }
@@ -36,7 +36,8 @@ fn refusal_by_both(alloc: Global, state: &State, command: &Command) -> Option<Re
     }
 }
 
-/// Commands with counts out of range. Without a problem they are refused for this reason first.
+/// Commands with counts out of range. Before a problem is loaded, they are refused with `NoInstance`, which comes
+/// before `Range`.
 const COMMANDS_BEFORE_LOAD: [TestCommand; 3] = [
     TestCommand::Search(0),
     TestCommand::Anneal(0),

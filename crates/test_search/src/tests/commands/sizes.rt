@@ -9,7 +9,7 @@ use plan_types::{Pins, Plan, Problem};
 use std::alloc::Global;
 use std::test::Fail;
 
-// Returns the job with another plan and working plan.
+// Returns the job with this plan and this working plan.
 fn with_plans(job: Job, plan: Plan, work: Plan) -> Job
     requires plan { passes job.problem job.pins plan.routes ≡ true }
     requires work { passes job.problem job.pins work.routes ≡ true }

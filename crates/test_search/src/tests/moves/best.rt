@@ -52,7 +52,7 @@ fn is_free(alloc: Global, case: &Case, name: u32) -> Result<bool, Fail>
     }
 }
 
-/// A problem, pins, a plan, an unplanned request, and its best place.
+/// A problem, pins, a plan, the name of a request, and its best place if it can be inserted.
 type Example = (
     TestProblem,
     &'static [u32],
@@ -78,7 +78,7 @@ const EXAMPLES: [Example; 11] = [
     // A planned request, and an unknown one.
     (FOUR, &[], &[1, 0, 2, 0, 4, 0, 0], 2, None),
     (FOUR, &[], &[1, 0, 2, 0, 4, 0, 0], 5, None),
-    // Vehicles that are full.
+    // All other vehicles are full.
     (FOUR_BY_ONE, &[], &[1, 0, 2, 0, 4, 0, 0], 3, Some((4, 1, 1))),
     (TestProblem::Pairs, &[], &[1, 2, 0], 3, Some((1, 2, 3))),
     // Right after a pin.

@@ -72,7 +72,7 @@ fn stops_of_draft(alloc: Global, draft: &Draft) -> Result<Vec<u32>, Fail> {
     stops_of(alloc, &draft.plan(alloc)?.routes)
 }
 
-/// A problem, a plan, an edit, whether it is then accepted, and the expected values.
+/// A problem, a plan, an edit, whether the draft is then accepted, and the expected values.
 type Example = (TestProblem, &'static [u32], Edit, bool, &'static [u32]);
 
 /// Two customers at a distance of 3, and a third between them, at the depot.
@@ -123,7 +123,7 @@ const RELOCATIONS_AND_EXCHANGES: [Example; 8] = [
         false,
         &[1, 3, 4, 2, 0, 1, 4, 0, 1, 3, 4, 2, 0],
     ),
-    // The direct leg to stop 3 is too long.
+    // Without stop 1, the direct leg to stop 3 is too long.
     (
         TestProblem::Pairs,
         &[1, 3, 4, 2, 0],

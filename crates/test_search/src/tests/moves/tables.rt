@@ -10,8 +10,8 @@ use plan_types::{Pins, Plan, Problem, Route};
 use std::alloc::Global;
 use std::test::Fail;
 
-// Returns whether the tables of one plan, after those of these vehicles are rebuilt, are the tables of the other
-// plan.
+// Returns whether the tables of the plan `before` become those of the plan `after` when the tables of these vehicles
+// are rebuilt.
 fn is_refreshed(
     alloc: Global,
     problem: &Problem,
@@ -126,7 +126,7 @@ fn route_of(routes: &[Route], vehicle: u32) -> &[u32]
     }
 }
 
-/// A problem, a plan, another one, and the vehicles whose tables are rebuilt.
+/// A problem, a plan, a changed plan, and the vehicles whose tables are rebuilt.
 type Example = (TestProblem, &'static [u32], &'static [u32], &'static [u32]);
 
 const EXAMPLES: [Example; 5] = [
@@ -152,7 +152,7 @@ const EXAMPLES: [Example; 5] = [
     (TestProblem::Pairs, &[1, 2, 0], &[1, 2, 0], &[]),
 ];
 
-// Returns whether the example's tables are rebuilt.
+// Returns whether the example's tables are rebuilt as they should be.
 fn is_rebuilt(alloc: Global, example: &Example) -> Result<bool, Fail> {
     let (given, before, after, vehicles) = *example;
     let after = plan_of(alloc, after)?;

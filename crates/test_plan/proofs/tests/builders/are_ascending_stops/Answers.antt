@@ -1,4 +1,4 @@
--- Known numbers in ascending order are known and distinct.
+-- If numbers ascend, and each belongs to a stop, they are known and distinct.
 use Rattle.std.proofs.Common.{sym, ap, ◌∙◌, arith}
 use Rattle.std.proofs.lemmas.List.{drop_all}
 use Rattle.test_plan.proofs.AscendingLemmas.{live_once, rises_live}
