@@ -13,8 +13,8 @@ use Rattle.anneal_search.specs.Orders.{rank, is_before, ordered}
 use Rattle.anneal_search.specs.Strings.{cut_of}
 use Rattle.anneal_search.specs.declared.strings.Cut.{Cut}
 
--- The string contains the stop at place q, lies in the route of n stops, and removes at most this many. A stop
--- that stays lies inside it.
+-- The string contains the stop at place q, lies in the route of n stops, and removes at most `most` stops. A stop
+-- that stays is neither the first nor the last of the string.
 pub record LiesAround (most n q : ℕ) (cut : Cut) : Type 0 where
   pub from : cut.first ≤ q
   pub to : q < cut.end

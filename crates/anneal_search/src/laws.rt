@@ -23,7 +23,7 @@ pub fn routes_are_ascending()
     ensures { RoutesAreAscending }
 {}
 
-/// Proves that the order that a word picks has the same names, in ascending order of key, salt and name.
+/// Proves that the order that a word picks has exactly the given names, in ascending order of key, salt and name.
 pub fn orders_are_ascending()
     ensures { OrdersAreAscending }
 {}

@@ -30,10 +30,10 @@ use std::alloc::Global;
 /// The length by which a candidate may exceed the working plan in an attempt, in hundredths of the mean leg.
 const ATTEMPT_HUNDREDTHS: u32 = 1000;
 
-/// Runs attempts for at most `count` steps, from step number `step` on. Each attempt has some vehicles fewer or,
-/// if the plan leaves requests unplanned, all of them. Its plan replaces the present one if it costs no more.
-/// Returns the plan and the number of the step after the last one; the attempts may end before all steps are
-/// made, if none is left. In problems where vehicles do not count, there are no attempts.
+/// Runs attempts for at most `count` steps, from step number `step` on. Each attempt has fewer vehicles than the
+/// plan uses or, if the plan leaves requests unplanned, all vehicles. Its plan replaces the present one if it costs
+/// no more. Returns the plan and the number of the step after the last one. If no attempt is left, the attempts end
+/// before all steps are made. In problems where vehicles do not count, there are no attempts.
 ///
 /// The plan must pass with the pins, there must be one pin per vehicle, and the steps must be below 2^60. Each
 /// attempt is logged when it ends.

@@ -45,7 +45,7 @@ pub drawn_end : (names ws left all : List ℕ) → names ++ drawn ws left ≡ al
 drawn_end names ws [] all so_far none = sym (append-nil names) ∙ (ap (λ ns. names ++ ns) (sym (drawn_none ws)) ∙ so_far)
 drawn_end names ws (x ∷ xs) all so_far none = absurd (omega arith)
 
--- the rest has as many items as were not removed
+-- an index below the number of items that are not removed is an index in the rest
 left_within : (taken xs : List ℕ) (k : ℕ) → AreTaken taken xs → k < length xs - length taken → k < length (left_of taken xs)
 left_within taken xs k are low = let all = length_left taken xs are in omega arith
 

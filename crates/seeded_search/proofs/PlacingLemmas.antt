@@ -1,5 +1,5 @@
--- Requests inserted one after another: a lower bound of the cost of the plan with all of them. If plans of this
--- cost are not near, neither is that plan.
+-- Requests inserted one after another: a lower bound of the cost of the plan with all of them. If no cost from this
+-- bound on is near, that plan is not near.
 use Rattle.std.proofs.Common.{◌≡◌, ℕ, zero, suc, ◌+◌, ◌-◌, ◌<◌, Bool, true, false, List, [], ◌∷◌, ◌++◌, ◌==◌, cond, length, drop, get_or, Option, Some, None, refl, sym, ap, subst, ◌∙◌, arith}
 use Rattle.std.specs.Prelude.{sum_by}
 use Rattle.std.specs.Option.{option_map}

@@ -52,8 +52,8 @@ add_states _ _ = []
 abbrev pub constants : List ℕ
 constants = 0x61707865 ∷ 0x3320646e ∷ 0x79622d32 ∷ 0x6b206574 ∷ []
 
--- `chacha20_block`: the block of a key of eight words, a counter of one and a nonce of three (2.3.1). The result
--- is the state; the RFC writes it as bytes, each word with its low byte first
+-- `chacha20_block`: the block of a key of eight words, a counter of one word and a nonce of three words (2.3.1). The
+-- result is the state; the RFC writes it as bytes, each word with its low byte first
 unfoldable pub chacha20_block : List ℕ → ℕ → List ℕ → List ℕ
 chacha20_block key counter nonce =
     let initial_state = constants ++ key ++ counter ∷ nonce in

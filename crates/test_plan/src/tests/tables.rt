@@ -447,7 +447,8 @@ fn takes(
     Ok(rebuilt == want && into_rebuilt(alloc, problem, first, second)? == want)
 }
 
-/// A longer route, then a shorter one and an empty one.
+/// A route, another route, and the size of the other route's table. The other route is longer, then shorter, then
+/// empty.
 const OTHER_ROUTES: [(&[u32], &[u32], [u64; 2]); 3] = [
     (&[1, 2], &[1, 2, 3, 4], [4, 5]),
     (&[1, 2, 3, 4], &[3, 4], [2, 6]),

@@ -1,4 +1,4 @@
--- The sum so far and the weight of the remaining names add up to the weight of all, and the sum does not
+-- The sum so far and the weight of the remaining names add up to the weight of all names, and the sum does not
 -- overflow
 use Rattle.std.proofs.Common.{◌≡◌, ◌+◌, ◌*◌, ◌^◌, ◌≤◌, drop}
 use Rattle.anneal_search.specs.AttemptState.{weight}

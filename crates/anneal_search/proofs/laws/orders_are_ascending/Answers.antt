@@ -1,4 +1,4 @@
--- An order has the same names, ascending by key, then by salt, then by name
+-- An order has exactly the given names, ascending by key, then by salt, then by name
 use Rattle.anneal_search.proofs.OrderLemmas.{orders_are_ascending}
 use Rattle.anneal_search.proofs.laws.orders_are_ascending.Goals as goal
 

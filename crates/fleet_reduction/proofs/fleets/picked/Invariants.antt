@@ -1,4 +1,4 @@
--- The lists so far and those of the remaining vehicles are all lists.
+-- The lists picked so far and those of the remaining vehicles are all picked lists.
 use Rattle.std.proofs.Common.{◌≡◌, ◌++◌, drop}
 use Rattle.fleet_reduction.specs.Fleets.{picked}
 use Rattle.fleet_reduction.proofs.fleets.picked.Given as goal

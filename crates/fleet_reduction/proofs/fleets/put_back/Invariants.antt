@@ -1,5 +1,5 @@
--- The lists so far and those of the remaining vehicles are all lists. The lists used so far are at most as many
--- as the vehicles so far.
+-- The routes so far and those of the remaining vehicles are all routes. At most one list was put back for each
+-- vehicle so far.
 use Rattle.std.proofs.Common.{◌≡◌, ◌≤◌, ◌++◌, drop}
 use Rattle.fleet_reduction.specs.Fleets.{put_back}
 use Rattle.fleet_reduction.proofs.fleets.put_back.Given as goal

@@ -1,5 +1,5 @@
--- Each pick is below the count of the remaining numbers, so its index is that of a number not drawn yet, which
--- is appended.
+-- Each pick is below the count of the remaining numbers, so it picks a number that is not drawn yet. This number is
+-- appended.
 use Rattle.std.proofs.Common.{rules, ◌≡◌, ◌-◌, ◌<◌, ◌≤◌, ◌++◌, ◌∷◌, [], length, drop, slice_index, refl, ap}
 use Rattle.seeded_search.specs.Words.{pick}
 use Rattle.seeded_search.specs.Steps.{drawn}

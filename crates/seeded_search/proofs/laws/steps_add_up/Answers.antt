@@ -1,4 +1,4 @@
--- Some steps followed by more steps are as many steps in one run.
+-- Some steps followed by more steps equal all of them in one run.
 use Rattle.seeded_search.proofs.SearchLemmas.{steps_add_up}
 use Rattle.seeded_search.proofs.laws.steps_add_up.Goals as goal
 

@@ -1,4 +1,4 @@
--- One step is a run of one step.
+-- One step is the result of `steps` for one step.
 use Rattle.seeded_search.specs.Steps.{steps}
 use Rattle.seeded_search.proofs.search.search_step.Goals as goal
 

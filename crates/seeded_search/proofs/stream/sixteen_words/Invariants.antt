@@ -1,4 +1,4 @@
--- The generator is after the words so far, and each of these is the one at its place.
+-- The generator is after the words so far, and each of them is the key stream's word at its place.
 use Rattle.std.proofs.Common.{◌≡◌, ℕ, ◌+◌, ◌<◌, get_or}
 use Rattle.rand_chacha.specs.ChaCha.{word_at}
 use Rattle.seeded_search.proofs.stream.sixteen_words.Given as goal
