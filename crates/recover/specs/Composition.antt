@@ -32,10 +32,10 @@ module _ {D : Type 0} (on : sectors.Ghosts D) where
   RunsConcatenate = (old mid new : SessionValue D) (commands more : List Command) (replies later : List Reply)
       → IsRunOn old commands replies mid → IsRunOn mid more later new → IsRunOn old (commands ++ more) (replies ++ later) new
 
-  -- Law: at each moment of both runs a crash leaves what a run of the joined lists guarantees. So the headline
-  -- applies to both together, and costs count from the last change in the joined list. The premise that each
-  -- image recovers to the session's state when the first run begins is guaranteed by every session
-  -- (`images_recover_to_the_state`).
+  -- Law: at each moment of the two runs a crash leaves what a run of the joined lists guarantees. So the
+  -- headline applies to both runs together, and costs count from the last change in the joined list. The
+  -- premise that each image recovers to the session's state when the first run begins is guaranteed by every
+  -- session (`images_recover_to_the_state`).
   --
   -- A killed process is not a separate case: the moments before the kill are those of the run whose later calls
   -- all fail.
