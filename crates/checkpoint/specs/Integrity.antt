@@ -22,8 +22,8 @@ is_blank bytes = list_all (λ b. b == 0) bytes
 abbrev pub IsOther : List ℕ → Header → Option Header → Type 0
 IsOther image header other = IsOfParity version_2 image (1 - header.sequence % 2) other
 
--- The other header sector has no valid header, and the store is not new. (In a new store, a blank sector is
--- beside the first header.)
+-- The other header sector has no valid header, and the store is not new. (In a new store the other header
+-- sector is blank.)
 pub record IsHeaderLost (image : List ℕ) (header : Header) : Type 0 where
   pub alone : (other : Header) → IsValid version_2 image other → other.sequence % 2 ≡ header.sequence % 2
   pub old : header.sequence ≡ 1 → is_blank (sector 0 image) ≡ false

@@ -77,7 +77,8 @@ pub record HasLeadingRecords (version : Version) (image : List ℕ) (sequence : 
   pub records : record_sectors 0 (length commands) image ≡ journal version sequence 0 commands
   pub recorded : All (IsRecorded version) commands
 
--- The records of a sequence are those of these commands, and the sector after them is not a record of it.
+-- The records of a sequence are those of these commands, and the sector after them is not a record of this
+-- sequence.
 pub record HasRecords (version : Version) (image : List ℕ) (sequence : ℕ) (commands : List Command) : Type 0 where
   pub led : HasLeadingRecords version image sequence commands
   pub count : length commands ≤ journal_room

@@ -68,7 +68,7 @@ pub(crate) fn valid_header(
     }
 }
 
-// Returns whether a sector has the magic and another version.
+// Returns whether a sector has the magic and a version other than `version`.
 fn is_of_other_version(version: u32, sector: &[u8; SECTOR_SIZE]) -> bool
     ensures { IsTrue result ↔ HasOtherVersion version sector.now }
 {

@@ -68,7 +68,8 @@ pub(crate) fn read_front<D: Sectors>(
     }
 }
 
-/// Reads the snapshot of a header, with one device call. The snapshot fits into a half.
+/// Reads the snapshot of a header, with one device call. The caller guarantees that the snapshot fits into a
+/// half.
 pub(crate) fn read_snapshot<D: Sectors>(
     alloc: Global,
     device: &mut D,

@@ -53,7 +53,7 @@ module _ {D : Type 0} (on : sectors.Ghosts D) where
     pub moments : on.honest later → Throughout on.clock on.possible_since device later (λ m image. IsBetween (on.calls device) (on.calls device + 1) m image × on.possible device image)
     pub left : (image : List ℕ) → on.possible next image → (m : ℕ) × on.possible_since later (on.clock device) m image
 
-  -- Crashed openings, one after another, on the first of these devices up to the last.
+  -- Crashed openings, one after another, that lead from device `first` to device `last`.
   abbrev pub AreCrashedOpenings : D → List D → D → Type 0
   AreCrashedOpenings first [] last = last ≡ first
   AreCrashedOpenings first (later ∷ laters) last = (next : D) × IsCrashedOpening first later next × AreCrashedOpenings next laters last

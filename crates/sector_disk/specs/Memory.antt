@@ -112,12 +112,12 @@ abbrev pub is_now : Option ℕ → Bool
 is_now None = false
 is_now (Some k) = k == 0
 
--- One call fewer until all calls fail.
+-- The fuse after one more finished call.
 abbrev pub one_less : Option ℕ → Option ℕ
 one_less None = None
 one_less (Some k) = Some (k - 1)
 
--- One call fewer until the single call that fails; None after that call.
+-- The count until the single call that fails, after one more call; None after the call that fails.
 abbrev pub one_less_or_none : Option ℕ → Option ℕ
 one_less_or_none None = None
 one_less_or_none (Some k) = if k == 0 then None else Some (k - 1)
@@ -173,8 +173,8 @@ sync_of m = if is_refused m then failed m else done m Synced
 abbrev pub HasOutcome : {T E : Type 0} → Outcome → Result T E → Memory → Type 0
 HasOutcome outcome result new = (is_ok result ≡ outcome.ok) × (new ≡ outcome.state)
 
--- That outcome, or the call ran out of memory: then it failed, and changed nothing but the number of failed
--- calls.
+-- The call had this outcome, or it ran out of memory: then it failed, and changed nothing but the number of
+-- failed calls.
 abbrev pub HasOutcomeOrNoMemory : {T E : Type 0} → Memory → Outcome → Result T E → Memory → Type 0
 HasOutcomeOrNoMemory old outcome result new = HasOutcome outcome result new ⊎ ((is_ok result ≡ false) × (new ≡ with_fault old))
 

@@ -6,7 +6,7 @@ use Rattle.sector_disk.specs.Image.{written, Mixes}
 abbrev pub calls_after : {T E : Type 0} → Result T E → ℕ → ℕ
 calls_after result calls = if is_ok result then calls + 1 else calls
 
--- The number of failed calls after one more call. It stays at 2^64-1.
+-- The number of failed calls after one more call, which may have failed. It never exceeds 2^64-1.
 abbrev pub faults_after : {T E : Type 0} → Result T E → ℕ → ℕ
 faults_after result faults = if is_ok result then faults else min (faults + 1) (2 ^ 64 - 1)
 

@@ -15,6 +15,6 @@ state_len Empty = 1
 state_len (Loaded j) = 54 + length j.problem.requests + 28 * length (numbers_among j.problem.requests) + (8 * length j.plan + 4 * length (concat j.plan)) +
     (4 * length j.work + 4 * length (concat j.work))
 
--- Law: this is the length of a state's encoding, and it is never above 1,960,054
+-- Law: `state_len` is the length of a state's encoding, and it is never above 1,960,054
 abbrev pub EncodingsFit : Type 0
 EncodingsFit = (s : State) → IsState s → (length (state_bytes Two s) ≡ state_len s) × (state_len s ≤ 1960054)
