@@ -57,7 +57,7 @@ failure_by fault cause = record { fault = fault; cause = option_map error_kind c
 abbrev pub without_cause : FileFault → Failure
 without_cause fault = record { fault = fault; cause = None }
 
--- The failure of a lock that was not taken: another process holds it, or the call failed otherwise.
+-- The failure of a lock that was not taken: another process or device holds it, or the call failed otherwise.
 abbrev pub lock_failure : ErrorKind → Failure
 lock_failure kind = if is_in_use kind then without_cause faults.InUse else failure_of kind
 

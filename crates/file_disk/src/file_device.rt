@@ -36,7 +36,7 @@ pub enum FileFault {
     BadLength,
     #[error("out of memory")]
     OutOfMemory,
-    /// Another process, or another device of this process, has the file open.
+    /// Another process, or another device of this process, holds a lock that excludes this one.
     #[error("the file is in use")]
     InUse,
 }

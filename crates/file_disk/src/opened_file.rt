@@ -107,7 +107,7 @@ impl OpenedFile {
         })
     }
 
-    // Takes the lock. Fails if another process holds it.
+    // Takes the lock. Fails if another process, or another device of this process, holds it.
     fn lock(&mut self, is_shared: bool, noted: &mut SystemCallLog) -> Result<(), OpeningFault>
         requires no_fault { first_failure (answered noted.old) ≡ None }
         ensures locked { IfOk result (λ _. IsTrue self.new.is_locked) }

@@ -37,8 +37,8 @@ module _ {D : Type 0} (on : sectors.Ghosts D) where
   -- premise that each image recovers to the session's state when the first run begins is guaranteed by every
   -- session (`images_recover_to_the_state`).
   --
-  -- A killed process is not a separate case: the moments before the kill are those of the run whose later calls
-  -- all fail.
+  -- A killed process is not a separate case: the moments before the kill are those of a run in which all later
+  -- calls fail.
   abbrev pub RunsCompose : Type 0
   RunsCompose = (old mid new : SessionValue D) (commands more : List Command) (replies later : List Reply)
       → IsRunOn old commands replies mid → IsRunOn mid more later new
