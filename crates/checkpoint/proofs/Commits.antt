@@ -1,4 +1,4 @@
--- The effect of the calls that write a snapshot on images that store something.
+-- The calls that write a snapshot, and their effect on images that store something.
 use Rattle.std.proofs.Common.{◌≡◌, ◌⊎◌, inl, inr, ⊎_elim, ℕ, ◌+◌, ◌*◌, ◌/◌, ◌%◌, ◌^◌, ◌<◌, ◌≤◌, List, [], length, take, drop, refl, sym, ◌∙◌, ap, subst, arith, length-take}
 use Rattle.sector_disk.specs.Image.{sector, written, Mixes}
 use Rattle.sector_disk.specs.ImageLaws.{length-written, mixes_outside}
@@ -50,7 +50,7 @@ module _ (header : Header) (bytes : List ℕ) (sequence : ℕ) (next : header.se
   pub whole_mix : (before : List ℕ) → 512 * 8450 ≤ length before → Mixes before (written (half_of header) bytes before) (written (half_of header) bytes before)
   whole_mix before room = record { size = length-written (half_of header) (length bytes / 512) bytes before sectors (inside before room); each = λ i. inr refl }
 
-  -- After the write, too, no valid header and no record has a greater sequence.
+  -- After the write, too, no valid header and no record has a greater sequence than the current one.
   pub below_stays : (before : List ℕ) → 512 * 8450 ≤ length before → Below version_2 sequence before → Below version_2 sequence (with_snapshot header bytes before)
   below_stays before room below =
       let mix = whole_mix before room in
@@ -85,7 +85,7 @@ module _ (header : Header) (bytes : List ℕ) (sequence : ℕ) (next : header.se
       (with_snapshot header bytes before)) header.sequence state []) counted
       (subst (λ (q : ℕ). Stores version_2 (written (q % 2) (header_bytes 2 (record { sequence = q; length = length state })) (with_snapshot header bytes before)) q state []) (sym next) new)
 
-  -- Each moment of the four calls, if each image stores something under the sequence before.
+  -- Each moment of the four calls, if each image before them stores something under the current sequence.
   module _ (state : List ℕ) (journal : List (List ℕ)) (possible : List ℕ → Type 0) (seen : List ℕ) (here : possible seen)
       (stored : (image : List ℕ) → possible image → Stores version_2 image sequence state journal) (last : header.sequence ≤ 2 ^ 60) (some : 1 ≤ header.length)
       (long : header.length ≤ length bytes) where

@@ -1,4 +1,4 @@
--- The effect of the calls that write a record on images that store something.
+-- The calls that write a record, and their effect on images that store something.
 use Rattle.std.proofs.Common.{◌≡◌, inl, inr, ⊎_elim, ℕ, ◌+◌, ◌*◌, ◌<◌, List, [], ◌∷◌, ◌++◌, length, sym, subst, arith}
 use Rattle.sector_disk.specs.Image.{written}
 use Rattle.sector_disk.specs.ImageLaws.{mixes_one}

@@ -34,7 +34,7 @@ journal-more version sequence index (first ∷ commands) command =
     ap (λ (l : List (List ℕ)). record_bytes version sequence index first ∷ l) (journal-more version sequence (suc index) commands command
     ∙ ap (λ (i : ℕ). journal version sequence (suc index) commands ++ record_bytes version sequence i command ∷ []) at)
 
--- an image whose bytes are those of the commands and one more holds all of them
+-- an image that stores the records of the commands and of one more holds these commands and that one
 pub holds_more : (image : List ℕ) (state : State) (commands : List Command) (command : Command) (place : Place) (known : List ℕ) → Holds Two known state commands place → IsRecorded Two command
     → Stores (layout_of Two) image place.sequence (state_bytes Two state) (journal Two place.sequence 0 commands ++ record_bytes Two place.sequence place.used command ∷ [])
     → Holds Two image state (commands ++ command ∷ []) (record { sequence = place.sequence; used = place.used + 1 })

@@ -38,7 +38,7 @@ take_front n m xs h inside =
     let room : n ≤ length (take m xs) = simp length-take (omega arith) in
     sym (take-append-le n (take m xs) (drop m xs) room) ∙ ap (take n) (take-append-drop m xs)
 
--- each of the first k sectors is the same in the whole list
+-- each of the first k sectors of a list is the same in the prefix of k sectors
 pub sector_front : (k j : ℕ) (xs : List ℕ) → j < k → 512 * k ≤ length xs → sector j (take (512 * k) xs) ≡ sector j xs
 sector_front k j xs h inside =
     let room : 512 * j + 512 ≤ length (take (512 * k) xs) = simp length-take (omega arith) in

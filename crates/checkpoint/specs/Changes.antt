@@ -32,9 +32,9 @@ pub record HasRecordRoom (sectors : ℕ) (place : Place) (command : Command) : T
   pub last : place.sequence ≤ last_sequence
 
 module _ {D : Type 0} (on : sectors.Ghosts D) where
-  -- A commit of `steps` calls. If each image held a state and commands at this place before the commit, it has
-  -- property Y of them after it. The number of finished calls determines what an image holds at a moment within
-  -- the commit. After Ok the one possible image is `written`.
+  -- A commit of `steps` calls. If each image held a state and commands at this place before the commit, Y holds
+  -- for that state, these commands and each image after it. Until `quiet` calls have finished each image holds
+  -- the old content, from then on the old or the new one. After Ok the one possible image is `written`.
   pub record ChangesStore {T E : Type 0} (result : Result T E) (steps quiet : ℕ) (place : Place) (Y : State → List Command → List ℕ → Type 0) (written : List ℕ) (old new : D) : Type 0 where
     pub commits : (state : State) (commands : List Command) → CommitsFrom on result steps quiet (HoldsAt state commands place) (Y state commands) old new
     pub durable : on.honest new → OnOk result (Only written (on.possible new))

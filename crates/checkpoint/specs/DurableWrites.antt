@@ -6,8 +6,8 @@ use Rattle.checkpoint.specs.declared.headers.Header.{Header}
 use Rattle.checkpoint.specs.Layouts.{version_2, journal_room, last_sequence, sectors_in}
 use Rattle.checkpoint.specs.WrittenImages.{half_of, with_both}
 
--- A moment within a write of these bytes and its sync. m calls have finished in all, and `calls` had when the
--- write began.
+-- A moment within a write of these bytes and its sync. m calls have finished in all; `calls` is their number
+-- when the write began.
 pub record IsInDurableWrite (first : ℕ) (bytes : List ℕ) (possible : List ℕ → Type 0) (seen : List ℕ) (calls m : ℕ) (image : List ℕ) : Type 0 where
   pub from : calls ≤ m
   pub to : m ≤ calls + 2

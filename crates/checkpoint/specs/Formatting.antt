@@ -13,9 +13,9 @@ use Rattle.checkpoint.specs.Refusals.{OnCalls, IsKeptByFormat, faults_after_form
 use Rattle.checkpoint.specs.Stores.{IsUnformatted}
 
 module _ {D : Type 0} (on : sectors.Ghosts D) where
-  -- If the device was called: at each moment from the second finished call on, each image has no store or a
-  -- store with Y, as `IsInFormat` says. Nothing is claimed about the moments before. After Ok each image has Y,
-  -- and is `written`.
+  -- If the device was called: from the second finished call on, each image at each moment has no store or has
+  -- Y, as `IsInFormat` says. Nothing is claimed about the moments before. After Ok each image has Y, and is
+  -- `written`.
   pub record Formats {T : Type 0} (result : Result T FormatFault) (Y : List ℕ → Type 0) (written : List ℕ) (old new : D) : Type 0 where
     pub moments : OnCalls result (During on old new (IsInFormat (IsUnformatted version_2) Y))
     pub after : OnOk result (Each on new Y)

@@ -11,6 +11,6 @@ magic = codes "PDRSTORE"
 abbrev pub header_bytes : ℕ → Header → List ℕ
 header_bytes version header = magic ++ big_bytes 4 version ++ big_bytes 8 header.sequence ++ big_bytes 8 header.length ++ replicate 484 0
 
--- a sector with the magic and another version
+-- a sector with the magic and a version other than this one
 abbrev pub HasOtherVersion : ℕ → List ℕ → Type 0
 HasOtherVersion version bytes = (take 8 bytes ≡ magic) × (take 4 (drop 8 bytes) ≢ big_bytes 4 version)

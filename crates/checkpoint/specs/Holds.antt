@@ -1,4 +1,5 @@
--- The content of an image: a state, the commands since, and the place at which the journal continues.
+-- The content of an image: a state, the commands committed after it, and the place at which the journal
+-- continues.
 use Rattle.std.specs.Prelude.{◌≡◌, ℕ, suc, List, [], ◌∷◌, length, All}
 use Rattle.command_types.specs.States.{IsState}
 use Rattle.command_types.specs.declared.states.State.{State}

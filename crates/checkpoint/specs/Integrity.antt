@@ -22,13 +22,13 @@ is_blank bytes = list_all (λ b. b == 0) bytes
 abbrev pub IsOther : List ℕ → Header → Option Header → Type 0
 IsOther image header other = IsOfParity version_2 image (1 - header.sequence % 2) other
 
--- The other header sector has no valid header, and the store is not new. (In a new store, a blank sector is
--- beside the first header.)
+-- The other header sector has no valid header, and the store is not new. (In a new store the other header
+-- sector is blank.)
 pub record IsHeaderLost (image : List ℕ) (header : Header) : Type 0 where
   pub alone : (other : Header) → IsValid version_2 image other → other.sequence % 2 ≡ header.sequence % 2
   pub old : header.sequence ≡ 1 → is_blank (sector 0 image) ≡ false
 
--- The other header sector has a valid header, but not the one just before this one.
+-- The other header sector has a valid header, but its sequence is not one less than that of `header`.
 pub record AreHeadersApart (image : List ℕ) (header : Header) : Type 0 where
   pub other : Header
   pub valid : IsValid version_2 image other
@@ -76,9 +76,9 @@ has_warning doubts HeadersApart = doubts.headers_apart
 has_warning doubts RecordDamaged = doubts.record_damaged
 has_warning doubts RecordsMixed = doubts.records_mixed
 
--- The image is consistent under this sequence. The other header is the one just before, or this header is the
--- first one, beside a blank sector. Each record sector is blank or a record at its place, and none begins with
--- a greater sequence than the one before it.
+-- The image is consistent under this sequence. The other header has the sequence before this one, or this one
+-- is the first and the other header sector is blank. Each record sector is blank or a record at its place, and
+-- none begins with a greater sequence than the one before it.
 pub record IsConsistentUnder (sequence : ℕ) (image : List ℕ) : Type 0 where
   pub headers : ((other : Header) × IsValid version_2 image other × (other.sequence + 1 ≡ sequence)) ⊎ ((sequence ≡ 1) × (is_blank (sector 0 image) ≡ true))
   pub records : (i : ℕ) → i < journal_room → (is_blank (sector (2 + i) image) ≡ true) ⊎ IsRecordAt i (sector (2 + i) image)

@@ -6,7 +6,7 @@ use Rattle.checkpoint.specs.declared.layouts.Layout.{Layout}
 abbrev pub version_2 : Layout
 version_2 = record { version = 2; half = 4096 }
 
--- an old store, 802 sectors
+-- the store of version 1, 802 sectors
 abbrev pub version_1 : Layout
 version_1 = record { version = 1; half = 272 }
 
@@ -22,7 +22,7 @@ front_sectors = 2 + journal_room
 abbrev pub last_sequence : ℕ
 last_sequence = 2 ^ 60
 
--- two headers, the records and two halves
+-- the number of sectors of a store: two headers, the records and two halves
 abbrev pub sectors_in : Layout → ℕ
 sectors_in layout = front_sectors + 2 * layout.half
 

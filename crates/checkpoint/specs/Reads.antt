@@ -24,13 +24,14 @@ pub record IsUnchanged {D : Type 0} (clock : D → ℕ) (since : D → ℕ → �
   pub moments : Throughout clock since old new (λ m image. (m ≡ calls old) × possible old image)
 
 module _ {D : Type 0} (on : sectors.Ghosts D) where
-  -- The device was only read. `faults_then` maps the number of failed calls before to that after.
+  -- The device was only read. `faults_then` maps the number of failed calls before the read to the number after
+  -- it.
   pub record ReadsOnly (faults_then : ℕ → ℕ) (old new : D) : Type 0 where
     pub called : Calls on same_count faults_then old new
     pub kept : on.honest new → IsUnchanged on.clock on.possible_since on.possible on.seen on.calls old new
 
--- The guarantees for any device, whether or not it answers as the model says: it has at least the sectors of a
--- store, the place is valid, and the state keeps its invariants.
+-- The guarantees of a load for any device, whether or not it answers as the model says. The device has at least
+-- `least` sectors, the place is valid, and the state keeps its invariants.
 pub record IsWellFormedLoad (least sectors : ℕ) (state : State) (place : Place) : Type 0 where
   pub room : least ≤ sectors
   pub first : 1 ≤ place.sequence
@@ -76,7 +77,8 @@ pub record HasLeadingRecords (version : Version) (image : List ℕ) (sequence : 
   pub records : record_sectors 0 (length commands) image ≡ journal version sequence 0 commands
   pub recorded : All (IsRecorded version) commands
 
--- The records of a sequence are those of these commands, and the sector after them is not a record of it.
+-- The records of a sequence are those of these commands, and the sector after them is not a record of this
+-- sequence.
 pub record HasRecords (version : Version) (image : List ℕ) (sequence : ℕ) (commands : List Command) : Type 0 where
   pub led : HasLeadingRecords version image sequence commands
   pub count : length commands ≤ journal_room

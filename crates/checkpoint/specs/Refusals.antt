@@ -1,11 +1,11 @@
--- The effect of a call that is refused on the device.
+-- The effect of a refused call on the device.
 use Rattle.std.specs.Prelude.{◌≡◌, ℕ, ◌+◌, ◌-◌, ◌^◌, min, Result, Ok, Err}
 use Rattle.checkpoint.specs.declared.faults.FormatFault.{FormatFault}
 use Rattle.checkpoint.specs.declared.faults.FormatFault.TheVariants.{TooSmall, DeviceFault, OutOfMemory}
 use Rattle.checkpoint.specs.declared.faults.StoreFault.{StoreFault}
 use Rattle.checkpoint.specs.declared.faults.StoreFault.TheVariants as store
 
--- One more failed call. The count stays at 2^64-1.
+-- The number of failed calls after one more of them. It never exceeds 2^64-1.
 abbrev pub one_more_fault : ℕ → ℕ
 one_more_fault faults = min (faults + 1) (2 ^ 64 - 1)
 

@@ -57,6 +57,6 @@ pub record Stores (layout : Layout) (image : List ℕ) (sequence : ℕ) (state :
   pub marked : (i : ℕ) → i < length journal → leading_number (sector (2 + i) image) ≡ sequence
   pub rest : (i : ℕ) → length journal ≤ i → i < journal_room → leading_number (sector (2 + i) image) < sequence
 
--- An image stores this in the layout of the current version.
+-- An image stores this sequence, snapshot and journal in the layout of the current version.
 abbrev pub HasStored : ℕ → List ℕ → List (List ℕ) → List ℕ → Type 0
 HasStored sequence state journal image = Stores version_2 image sequence state journal

@@ -49,7 +49,7 @@ pub enum StoreFault {
     NotFormatted,
     #[error("the store is of another version")]
     BadVersion,
-    /// The snapshot's bytes are not a state, or the journal has a record that does not belong to it. If memory
+    /// The snapshot's bytes are not a state, or a record of the journal does not belong to the state. If memory
     /// runs out, the fault is `OutOfMemory` instead.
     #[error("the store is broken: {0}")]
     Codec(CodecFault),

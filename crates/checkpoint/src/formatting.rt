@@ -54,7 +54,7 @@ fn write_store<D: Sectors>(
     )
 }
 
-/// Creates a store with a snapshot: the first `size` of these bytes.
+/// Creates a store whose snapshot is the first `size` of these bytes.
 pub(crate) fn make_store<D: Sectors>(
     alloc: Global,
     device: &mut D,
@@ -98,7 +98,7 @@ pub fn format<D: Sectors>(alloc: Global, device: &mut D) -> Result<Place, Format
     make_store(alloc, device, 1, &[0; SECTOR_SIZE])
 }
 
-/// Like `format`, for a store that begins with this state. `OutOfMemory` comes before the first call.
+/// Like `format`, but the new store holds this state. `OutOfMemory` is reported before the device is called.
 pub fn format_with<D: Sectors>(
     alloc: Global,
     device: &mut D,

@@ -68,7 +68,7 @@ pub(crate) fn valid_header(
     }
 }
 
-// Returns whether a sector has the magic and another version.
+// Returns whether a sector has the magic and a version other than `version`.
 fn is_of_other_version(version: u32, sector: &[u8; SECTOR_SIZE]) -> bool
     ensures { IsTrue result ↔ HasOtherVersion version sector.now }
 {
@@ -126,7 +126,7 @@ pub(crate) fn current_header(
     }
 }
 
-/// Returns the command whose record, with this sequence and index, is this sector, if there is one.
+/// Returns the command that this sector records under this sequence and index, if there is one.
 pub(crate) fn command_in(
     version: Version,
     sector: &[u8; SECTOR_SIZE],

@@ -135,7 +135,7 @@ fn other_header(sectors: u64, front: &[u8], header: Header) -> Option<Header>
     valid_header(VERSION_2, sectors, front, index)
 }
 
-// Returns whether this is the only valid header, though it is not that of a new store.
+// Returns whether `header` is the only valid header, though the store is not new.
 fn is_header_lost(sectors: u64, front: &[u8], header: Header) -> bool
     requires { length front.now ≡ 512 * front_sectors }
     ensures { (image : List ℕ) → IsImageFront sectors front.now image
@@ -147,8 +147,8 @@ fn is_header_lost(sectors: u64, front: &[u8], header: Header) -> bool
     }
 }
 
-// Returns whether the other header sector has a valid header whose sequence is not the one just before this
-// header's.
+// Returns whether the other header sector has a valid header whose sequence is not one less than that of
+// `header`.
 fn are_headers_apart(sectors: u64, front: &[u8], header: Header) -> bool
     requires { length front.now ≡ 512 * front_sectors }
     ensures { (image : List ℕ) → IsImageFront sectors front.now image

@@ -33,7 +33,7 @@ pub const SECTORS: u64 = FRONT_SECTORS + 2 * VERSION_2.half as u64;
 /// The number of sectors of the smallest store of any version.
 pub const MIN_SECTORS: u64 = FRONT_SECTORS + 2 * VERSION_1.half as u64;
 
-/// The layout of an old store: 802 sectors. It is only read.
+/// The layout of a store of version 1: 802 sectors. Such a store is only read.
 const VERSION_1: Layout = Layout {
     version: 1,
     half: 272,

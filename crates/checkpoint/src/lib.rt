@@ -26,11 +26,11 @@
 //! it.
 //!
 //! Proved: an image holds exactly one state with its commands and place, or has exactly one fault. For an
-//! honest device `load` returns that, unless memory runs out or the device fails, and changes nothing. Within a
-//! commit to an honest device, the number of finished device calls determines whether an image may hold the old
-//! content, the new content, or either; after `Ok` it holds the new one. `format` guarantees that from its
-//! first sync on an image has no store or the new one. A new store has no integrity warning, nor has any image
-//! that a crash within a commit leaves of a consistent store.
+//! honest device `load` returns these or the fault, unless memory runs out or the device fails, and changes
+//! nothing. Within a commit to an honest device, the number of finished device calls determines whether an
+//! image may hold the old content, the new content, or either; after `Ok` it holds the new one. From the first
+//! sync of `format` on, an image has no store or the new one. A new store has no integrity warning, nor has any
+//! image that a crash within a commit leaves of a consistent store.
 #![tactic(auto)]
 
 mod changes;

@@ -68,7 +68,8 @@ pub(crate) fn read_front<D: Sectors>(
     }
 }
 
-/// Reads the snapshot of a header, with one device call. The snapshot fits into a half.
+/// Reads the snapshot of a header, with one device call. The caller guarantees that the snapshot fits into a
+/// half.
 pub(crate) fn read_snapshot<D: Sectors>(
     alloc: Global,
     device: &mut D,
@@ -261,15 +262,8 @@ fn decode(alloc: Global, version: Version, bytes: &[u8]) -> Result<State, CodecF
     }
 }
 
-/// Reads the content of the image that reads return, by the layout, encoding and limits of this version. It
-/// only reads: at each moment of the call, each image is one that was possible before it.
-///
-/// If the image holds nothing, returns the first fault, in this order: `NotFormatted` or `BadVersion` for the
-/// headers, `Codec` for the snapshot, `Codec` for the journal. A device of fewer than 802 sectors is
-/// `NotFormatted`, and is not called. In version 1, records that add a stop with a number above 4,000 are
-/// `Codec(BadField)`: numbers continue from the snapshot's next number, record by record.
-///
-/// Whatever the device answers, a returned state and place keep their invariants.
+/// Reads the content of the image that reads return, by the layout, encoding and limits of this version. The
+/// call only reads: each image that is possible at a moment of the call was possible before it.
 pub fn load<D: Sectors>(
     alloc: Global,
     device: &mut D,

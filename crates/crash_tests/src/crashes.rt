@@ -9,8 +9,8 @@ use sector_disk::MemDevice;
 use std::alloc::{AllocError, Global};
 use std::io;
 
-/// A table of the crashes of an example: a row for each number of finished calls, which counts each choice for
-/// the sectors that are written.
+/// A table of the crashes of an example, with a row for each number of finished calls. A row counts the results
+/// of one crash for each choice of what the crash leaves in the sectors of `written`.
 #[derive(Clone, Copy)]
 struct Table {
     title: &'static str,
@@ -157,7 +157,7 @@ impl RunResult {
         ended
     }
 
-    // Collects the answers and the result of opening, if both are there.
+    // Collects the answers and the result of opening. Fails if one of them is missing.
     fn with(
         alloc: Global,
         run: &Result<Run, AllocError>,
@@ -216,8 +216,8 @@ fn is_state(states: &[Vec<u8>], number: u64, bytes: &[u8]) -> bool {
     }
 }
 
-// Runs the example over a new store. After its opening the device fails after `calls` more calls, and then it
-// crashes.
+// Runs the example over a new store. The device fails once the commands have finished `calls` calls, and then
+// it crashes.
 fn crashed(alloc: Global, table: &Table, calls: u64, choice: u32) -> io::Result<RunResult> {
     let choices = choices_of(alloc, table.written, choice)?;
     crashed_with(alloc, table, calls, &choices)

@@ -19,7 +19,7 @@ use sector_disk::{MemDevice, Sectors};
 use std::alloc::Global;
 use std::io;
 
-/// The place of a store: its sequence and the number of used records. `(0, 0)` if it holds nothing.
+/// The place of a store: its sequence and the number of used records, or `(0, 0)` if the image holds nothing.
 type SequenceAndUsed = (u64, u32);
 
 /// The places that images of the small run may have.
@@ -62,8 +62,8 @@ fn wide_state(alloc: Global) -> io::Result<State> {
     }
 }
 
-// Returns the row of the small run that crashes after `calls` finished calls, for each choice of the sectors
-// that it writes.
+// Returns the row of the small run, crashed after `calls` finished calls, for each choice for the sectors that
+// it writes.
 fn row_of_small_runs(alloc: Global, calls: u64) -> io::Result<[u64; 6]> {
     let mut row = [0; 6];
     for choice in 0..32 {
@@ -72,7 +72,7 @@ fn row_of_small_runs(alloc: Global, calls: u64) -> io::Result<[u64; 6]> {
     Ok(row)
 }
 
-// Returns the index of this place among the places, or their number if it is none of them.
+// Returns the index of this place in `PLACES`, or the length of `PLACES` if it is not there.
 fn place_of(held: SequenceAndUsed) -> usize {
     PLACES
         .iter()
@@ -100,8 +100,8 @@ fn crash_small_run(
     agreed(alloc, device)
 }
 
-// Returns the row of a format over a store with a record that crashes after `calls` finished calls, for each
-// choice of the headers and of the first record.
+// Returns the row of a format that crashes after `calls` finished calls, over a store with a record, for each
+// choice for the headers and the first record.
 fn row_of_formats(alloc: Global, state: &State, calls: u64) -> io::Result<[u64; 2]> {
     let mut row = [0; 2];
     for choice in 0..8 {
@@ -151,8 +151,8 @@ fn format_and_record<D: Sectors>(
     recorded(device, place, &Command::Build)
 }
 
-// Returns the place after a snapshot over a store of the same state, which crashes after `calls` finished
-// calls. Every second sector is kept.
+// Commits a snapshot over a store of the same state, crashes the device after `calls` finished calls, and
+// returns the place. The crash leaves the new content in every second sector.
 fn crashed_snapshot(alloc: Global, state: &State, calls: u64) -> io::Result<SequenceAndUsed> {
     let choices = every_second(alloc)?;
     crash_snapshot(

@@ -171,8 +171,8 @@ fn upgrade_fault(alloc: Global, old: &mut MemDevice, new: &mut MemDevice) -> Opt
     upgrade(alloc, old, new).err()
 }
 
-// Returns the row of an upgrade over another store that crashes after `calls` finished calls of the new device,
-// with each choice of the sectors that it writes.
+// Returns the row of an upgrade that crashes after `calls` finished calls of the new device, over another
+// store, with each choice for the sectors that it writes.
 fn row_of_crashes(alloc: Global, calls: u64, state: &[u8]) -> io::Result<[u64; 4]> {
     let mut row = [0; 4];
     for choice in 0..16 {

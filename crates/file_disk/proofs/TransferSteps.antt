@@ -97,7 +97,7 @@ module _ (direction : Direction) (old new : List Noted) (start : ℕ) where
         ap transfers_in next ∙ after_moved direction (transfers_by old) (start + at) n piece
         ∙ ap (λ (reported : TransferLog). with_ongoing advanced reported.entries reported.ongoing direction (start + at) piece n) is ∙ goes entries direction start bytes piece at n more rest
 
--- the buffer after a read has filled its remaining part
+-- the buffer after a read has filled the part from `at` on
 pub put_rest : (at : ℕ) (xs ys : List ℕ) → put_mid at (length xs - at) xs ys ≡ take at xs ++ ys
 put_rest at xs ys =
     ap (λ (l : List ℕ). take at xs ++ (ys ++ l)) (drop_of_length-le (drop at xs) (omega (arith, length-drop at xs)))

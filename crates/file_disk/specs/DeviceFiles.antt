@@ -27,8 +27,8 @@ is_same_file (Some one) (Some other) = is_same one other
 is_same_file (Some one) None = false
 is_same_file None other = false
 
--- Both paths were identified, and the answer says whether they lead to the same file. `was` is the list of
--- requests before, `now` the list after.
+-- The files at both paths were identified, and the answer says whether they are the same file. `was` is the
+-- list of requests before, `now` the list after.
 pub record AreCompared (one other : List ℕ) (is_one : Bool) (was now : List FileRequestEntry) : Type 0 where
   pub first : Option FileIdentity
   pub second : Option FileIdentity

@@ -33,7 +33,7 @@ module _ {S F : Type 0} {start : starts.Ghosts S} {g : calls.Ghosts F} where
   abbrev pub history_of : Disk → (ℕ → List ℕ) → (F → List Entry) → FileDevice S F start g → History
   history_of disk shown entries d = file_history d.sectors disk shown (entries d.file) d.calls
 
-  -- One more call has failed, and this is the error of the system.
+  -- One more call has failed, and `cause` is the error of the system, if there is one.
   pub record HasFailed (cause : Option Error) (old new : FileDevice S F start g) : Type 0 where
     pub fault : new.faults ≡ min (old.faults + 1) (2 ^ 64 - 1)
     pub file : new.file ≡ old.file
@@ -41,6 +41,6 @@ module _ {S F : Type 0} {start : starts.Ghosts S} {g : calls.Ghosts F} where
     pub calls : new.calls ≡ old.calls
     pub reported : new.cause ≡ cause
 
-  -- No call was made yet.
+  -- No call of the device was made yet.
   abbrev pub IsUnused : (F → List Entry) → FileDevice S F start g → Type 0
   IsUnused entries d = (device_calls d ≡ 0) × (device_faults d ≡ 0) × (entries d.file ≡ [])

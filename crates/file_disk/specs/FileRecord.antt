@@ -49,13 +49,14 @@ Agrees n disk shown (WriteFailed first) bytes = IsImage n (run disk (sectors_fro
 Agrees n disk shown SyncFinished bytes = Unit {0}
 Agrees n disk shown SyncFailed bytes = IsImage n disk shown
 
--- A file whose disk was `start` when it was opened has answered as the device of the model in all calls so far.
+-- A file has answered as the device of the model in all calls so far. When it was opened, its disk was `start`,
+-- and the image that reads returned was possible.
 abbrev pub AnswersAsModel : ℕ → Disk → (ℕ → List ℕ) → List Entry → Type 0
 AnswersAsModel n start shown [] = IsImage n start start.seen
 AnswersAsModel n start shown (entry ∷ earlier) =
     AnswersAsModel n start shown earlier × Agrees n (run start (events_in shown earlier)) (shown (length earlier)) entry.0 entry.1
 
--- Each write, finished or not, was a run of whole sectors inside a device of this many bytes.
+-- A write, finished or not, was a run of whole sectors inside a device of this many bytes.
 abbrev pub is_inside : ℕ → Answer → List ℕ → Bool
 is_inside size (ReadGave first) bytes = true
 is_inside size ReadFailed bytes = true

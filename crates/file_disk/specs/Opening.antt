@@ -57,12 +57,12 @@ failure_by fault cause = record { fault = fault; cause = option_map error_kind c
 abbrev pub without_cause : FileFault → Failure
 without_cause fault = record { fault = fault; cause = None }
 
--- A lock that was not taken: another process holds it, or the call failed otherwise.
+-- The failure of a lock that was not taken: another process or device holds it, or the call failed otherwise.
 abbrev pub lock_failure : ErrorKind → Failure
 lock_failure kind = if is_in_use kind then without_cause faults.InUse else failure_of kind
 
--- A failed sync of a folder. Some file systems can't sync a folder and report invalid input; this is not a
--- failure.
+-- The failure of a sync of a folder. Some file systems can't sync a folder and report invalid input; this is
+-- not a failure.
 abbrev pub folder_failure : ErrorKind → Option Failure
 folder_failure kind = if is_not_offered kind then None else Some (failure_of kind)
 
@@ -105,7 +105,7 @@ abbrev pub len_after : List Noted → Option ℕ
 len_after [] = None
 len_after (call ∷ earlier) = len_by call.0 (len_after earlier)
 
--- The length is not a whole number of sectors.
+-- The failure of a file whose length is not a whole number of sectors.
 abbrev pub len_failure : Option ℕ → Option Failure
 len_failure None = None
 len_failure (Some len) = if len % 512 == 0 then None else Some (without_cause faults.BadLength)
@@ -214,7 +214,8 @@ abbrev pub is_shared : Access → Bool
 is_shared Read = true
 is_shared _ = false
 
--- For reading, it is first checked that the path leads to a plain file, since opening another kind could block.
+-- The calls before the opening. For reading, it is first checked that the path leads to a plain file, since
+-- opening another kind of file could block.
 abbrev pub finding_calls : Access → List ℕ → List Noted
 finding_calls Read path = (Find true, path) ∷ []
 finding_calls _ path = []
@@ -241,14 +242,15 @@ pub record IsNotOpened (access : Access) (path : List ℕ) (calls : List Noted) 
   pub reported : taking_failure calls ≡ Some failure
   pub touched : HasOnlyOpened access path (effects_in (answered calls))
 
--- The existing file was opened for reading and writing, or was not opened. No file was created.
+-- The existing file was opened for reading and writing. Below, `IsNotOpenedExisting`: it was not opened. In
+-- both cases no file was created.
 abbrev pub IsOpenedExisting : List ℕ → List Noted → ℕ → Type 0
 IsOpenedExisting path calls len = IsOpened Write path calls len
 
 abbrev pub IsNotOpenedExisting : List ℕ → List Noted → Failure → Type 0
 IsNotOpenedExisting path calls failure = IsNotOpened Write path calls failure
 
--- The existing file was opened for reading only, or was not opened.
+-- The existing file was opened for reading only. Below, `IsNotOpenedReadOnly`: it was not opened.
 abbrev pub IsOpenedReadOnly : List ℕ → List Noted → ℕ → Type 0
 IsOpenedReadOnly path calls len = IsOpened Read path calls len
 

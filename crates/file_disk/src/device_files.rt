@@ -26,7 +26,7 @@ pub enum FileRequest {
     OpenReadOnly,
     /// Open the file, and create it if there is none.
     Create,
-    /// Identify the file, if there is one. The value is its identity.
+    /// Identify the file, if there is one. The value is its identity, or `None`.
     Identify(Option<FileIdentity>),
 }
 

@@ -7,7 +7,7 @@
 //! - If `calls` has reached 2^64-1, a write or sync does not call the file, and so is not in the record.
 //! - A device holds its file's lock until it is dropped (`opened_file`), so two devices never share a file.
 //! - `create` syncs the file's folder too, so that a new file survives a power loss. If the file system can't
-//!   sync folders, `create` continues. It does not claim that the returned device is settled.
+//!   sync folders, `create` continues. No clause of `create` says which images a crash may leave.
 //! - After a failed call, `cause` returns the system's error. No clause constrains it. After a failed opening,
 //!   it is the error of the first call that failed.
 ghost use Rattle.std.specs.Prelude.{◌≡◌, ◌+◌, ◌-◌, ◌*◌, ◌%◌, ◌^◌, ◌<◌, ◌≤◌, ◌↔◌, [], List, ℕ, length, take, drop, OnOk, OnErr, IfOk, IfErr, IsErr, IsErrAnd, IsErrOf, IsTrue, min, ◌≢◌, MatchResult, Some};
@@ -36,7 +36,7 @@ pub enum FileFault {
     BadLength,
     #[error("out of memory")]
     OutOfMemory,
-    /// Another process, or another device of this process, has the file open.
+    /// Another process, or another device of this process, holds a lock that excludes this one.
     #[error("the file is in use")]
     InUse,
 }
@@ -124,7 +124,8 @@ impl<S: FileAssumptions> FileDevice<S> {
     ghost use Rattle.file_disk.specs.FileDevice.{calls_of_open_error, device_len, IsUnused, opening};
 
     /// Opens the file at `path`, creates it if there is none, and sets its length to this many sectors. Sectors
-    /// that are cut off are lost, new ones are zeros. On success the length and the name are durable.
+    /// that are cut off are lost, new ones are zeros. On success the length is durable, and so is the name if
+    /// the file system can sync folders.
     pub fn create<R: Files<File = File>>(
         rt: &R,
         path: &str,

@@ -107,7 +107,7 @@ impl OpenedFile {
         })
     }
 
-    // Takes the lock. Fails if another process holds it.
+    // Takes the lock. Fails if another process, or another device of this process, holds it.
     fn lock(&mut self, is_shared: bool, noted: &mut SystemCallLog) -> Result<(), OpeningFault>
         requires no_fault { first_failure (answered noted.old) ≡ None }
         ensures locked { IfOk result (λ _. IsTrue self.new.is_locked) }
@@ -316,8 +316,8 @@ pub fn open_existing_file<R: Files<File = File>>(
     Ok((opened.into_file(), sectors))
 }
 
-/// Opens a file, creating it if there is none, and sets its length. On success the length and the name are
-/// durable.
+/// Opens a file, creating it if there is none, and sets its length. On success the length is durable, and so is
+/// the name if the file system can sync folders.
 pub fn create_file<R: Files<File = File>>(
     rt: &R,
     path: &str,
@@ -335,7 +335,7 @@ pub fn create_file<R: Files<File = File>>(
     Ok(opened.into_file())
 }
 
-// Makes a new file's name durable.
+// Makes a new file's name durable, if the file system can sync folders.
 fn sync_folder<R: Files<File = File>>(
     rt: &R,
     path: &str,

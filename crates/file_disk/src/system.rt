@@ -98,7 +98,7 @@ pub fn open<R: Files<File = File>>(
     opened
 }
 
-/// Takes the file's lock, shared or not. `WouldBlock` if another process has it.
+/// Takes the file's lock, shared or not. The error is `WouldBlock` if another process or device holds it.
 pub fn lock(file: &File, is_shared: bool, noted: &mut SystemCallLog) -> io::Result<()>
     ensures { noted.new ≡ (SystemCall.Lock is_shared (kind_in result), []) ∷ noted.old }
 {

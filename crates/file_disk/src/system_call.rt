@@ -28,8 +28,8 @@ pub enum SystemCall {
         access: Access,
         failed: Option<ErrorKind>,
     },
-    /// A request for the file's lock, shared or not. It fails with `WouldBlock` if another process holds the
-    /// lock.
+    /// A request for the file's lock, shared or not. It fails with `WouldBlock` if another process or device
+    /// holds the lock.
     Lock {
         is_shared: bool,
         failed: Option<ErrorKind>,

@@ -19,8 +19,8 @@ use Rattle.recover.proofs.Headlines.{passing, stands_state}
 use Rattle.recover.proofs.StepLemmas.{after-append, accepted-append}
 use Rattle.recover.proofs.RoundLemmas.{reads_possible}
 
--- the recovered commands of the rounds lead from the state that the device recovered to at first to the one
--- that it recovers to now
+-- the recovered commands of the rounds lead from the state `begun` to the state that the device `left` recovers
+-- to
 record Folds (begun : State) (rounds : List Round) (runs : List Run) (left : MemDevice) : Type 0 where
   pub counts : List ℕ
   pub one_each : AreCounts rounds runs counts
@@ -44,7 +44,7 @@ folds (round ∷ rounds) (run ∷ runs) device left begun are stands =
 folds [] (run ∷ runs) device left begun are stands = elim are [ ]
 folds (round ∷ rounds) [] device left begun are stands = elim are [ ]
 
--- the state that the device recovered to at first
+-- the state that the device recovered to before the rounds
 record Begins (device : MemDevice) : Type 0 where
   pub begun : State
   pub stands : RecoversTo Two (seen_in device) begun

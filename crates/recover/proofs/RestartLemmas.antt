@@ -52,7 +52,7 @@ record Begins (first device : MemDevice) (restarts : List Restart) (runs : List 
   pub linked : AreLinked begun links last
 
 module _ (keep : RunsKeepInvariants) (never_more : PlansNeverCostMore) (say : PassesDecidesTheVerdict) where
-  -- Opening a device that a run has left is a link.
+  -- A run and the opening of the device that it left are a link.
   link_to : (begun : State) (commands : List Command) (acknowledged : ℕ) (device : MemDevice) (session : SessionValue MemDevice)
       → ((image : List ℕ) → MayLeave (memory device) image → RecoversToPrefix begun commands acknowledged image) → IsMemoryOpened device session → IsRecovered begun commands acknowledged session.state
   link_to begun commands acknowledged device session images opened =

@@ -98,7 +98,8 @@ images_at_the_end commands replies old new run moments image possible =
     subst (λ (n : ℕ). RecoversToPrefix old.state (kept commands replies) n image) (all_acked commands replies old new run)
     (moments.each (memory new.device).calls image (counts_now new.device (clock_of (memory old.device)) image moments.later possible))
 
--- If two sessions differ only in the failures that are set, both were opened from the same device.
+-- If a session was opened from a device, so was a session that differs from it only in the failures that are
+-- set.
 still_opened : (device : MemDevice) (old new : SessionValue MemDevice) → IsSameDevice (memory old.device) (memory new.device) → new.state ≡ old.state → new.place ≡ old.place
     → new.is_broken ≡ old.is_broken → IsMemoryOpened device old → IsMemoryOpened device new
 still_opened device old new same state place broken opened = record {
@@ -164,7 +165,7 @@ one_run_each (r ∷ rounds) (x ∷ runs) device left are = ap suc (one_run_each 
 one_run_each [] (x ∷ runs) device left are = elim are [ ]
 one_run_each (r ∷ rounds) [] device left are = elim are [ ]
 
--- If some first rounds were executed and the next one did not begin, the whole list was cut there.
+-- If a prefix of the rounds was executed and the next round did not begin, the whole list was cut there.
 pub cuts_rounds : (rounds before more : List Round) (runs : List Run) (device mid left : MemDevice) (fault : RoundsFault) → before ++ more ≡ rounds → AreRounds device before runs mid
     → IsUnbegun mid fault left → CutsRounds device rounds fault left
 cuts_rounds rounds before more runs device mid left fault all are unbegun = record {

@@ -19,7 +19,7 @@ use Rattle.recover.specs.RecoversTo.{RecoversTo}
 use Rattle.recover.specs.Moments.{RunLeaves}
 use Rattle.recover.specs.Sessions.{SessionValue}
 
--- A snapshot is due: the command has no record, or the journal has 256.
+-- A snapshot is due: the command has no record, or the journal has 256 records.
 abbrev pub is_snapshot_due : Place → Command → Bool
 is_snapshot_due place command = not (is_recorded command) || (place.used == journal_room)
 
@@ -34,7 +34,7 @@ place_after place command =
     then place_after_snapshot place
     else place_after_record place
 
--- A snapshot is due, and there is no sequence left for it.
+-- The denial Spent, if a snapshot is due and there is no sequence left for it.
 abbrev pub spent : Place → Command → Option Denial
 spent place command = if is_snapshot_due place command && (place.sequence == last_sequence) then Some Spent else None
 
@@ -76,7 +76,8 @@ Makes (Err (Core refusal)) old command new = new ≡ old
 Makes (Err Spent) old command new = new ≡ old
 Makes (Err OutOfMemory) old command new = new ≡ old
 
--- DeviceFault is answered if exactly one call has failed. With any other answer no call has failed.
+-- The number of failed calls after a command with this answer: one more for DeviceFault, and no more for any
+-- other answer.
 abbrev pub faults_after_answer : {T : Type 0} → Result T Denial → ℕ → ℕ
 faults_after_answer (Ok done) faults = faults
 faults_after_answer (Err DeviceFault) faults = one_more_fault faults
@@ -85,7 +86,7 @@ faults_after_answer (Err (Core refusal)) faults = faults
 faults_after_answer (Err Spent) faults = faults
 faults_after_answer (Err OutOfMemory) faults = faults
 
--- The count m lies between the two others.
+-- The count m lies between `from` and `to`.
 abbrev pub IsBetween : ℕ → ℕ → ℕ → List ℕ → Type 0
 IsBetween from to m image = (from ≤ m) × (m ≤ to)
 

@@ -18,8 +18,8 @@ use Rattle.recover.specs.Applying.{spent}
 use Rattle.recover.specs.RecoversTo.{RecoversTo}
 use Rattle.recover.specs.Sessions.{AllHold}
 
--- A moment within `steps` calls that lead from one state to another. m calls have finished in all, and `calls`
--- had when they began.
+-- A moment within `steps` calls that lead from one state to another. m calls have finished in all; `calls` is
+-- their number when the first of these began.
 abbrev pub IsInStep : State → State → ℕ → ℕ → ℕ → List ℕ → Type 0
 IsInStep old new calls steps m image = IsInCommit (λ i. RecoversTo Two i old) (λ i. RecoversTo Two i new) steps 0 calls m image
 

@@ -32,13 +32,13 @@ module _ {D : Type 0} (on : sectors.Ghosts D) where
   RunsConcatenate = (old mid new : SessionValue D) (commands more : List Command) (replies later : List Reply)
       → IsRunOn old commands replies mid → IsRunOn mid more later new → IsRunOn old (commands ++ more) (replies ++ later) new
 
-  -- Law: at each moment of both runs a crash leaves what a run of the joined lists guarantees. So the headline
-  -- applies to both together, and costs count from the last change in the joined list. The premise that each
-  -- image recovers to the session's state when the first run begins is guaranteed by every session
-  -- (`images_recover_to_the_state`).
+  -- Law: at each moment of the two runs a crash leaves what a run of the joined lists guarantees. So the
+  -- headline applies to both runs together, and costs count from the last change in the joined list. The
+  -- premise that each image recovers to the session's state when the first run begins is guaranteed by every
+  -- session (`images_recover_to_the_state`).
   --
-  -- A killed process is not a separate case: the moments before the kill are those of the run whose later calls
-  -- all fail.
+  -- A killed process is not a separate case: the moments before the kill are those of a run in which all later
+  -- calls fail.
   abbrev pub RunsCompose : Type 0
   RunsCompose = (old mid new : SessionValue D) (commands more : List Command) (replies later : List Reply)
       → IsRunOn old commands replies mid → IsRunOn mid more later new
@@ -53,7 +53,7 @@ module _ {D : Type 0} (on : sectors.Ghosts D) where
     pub moments : on.honest later → Throughout on.clock on.possible_since device later (λ m image. IsBetween (on.calls device) (on.calls device + 1) m image × on.possible device image)
     pub left : (image : List ℕ) → on.possible next image → (m : ℕ) × on.possible_since later (on.clock device) m image
 
-  -- Crashed openings, one after another, on the first of these devices up to the last.
+  -- Crashed openings, one after another, that lead from device `first` to device `last`.
   abbrev pub AreCrashedOpenings : D → List D → D → Type 0
   AreCrashedOpenings first [] last = last ≡ first
   AreCrashedOpenings first (later ∷ laters) last = (next : D) × IsCrashedOpening first later next × AreCrashedOpenings next laters last

@@ -48,7 +48,7 @@ pub record LeadsTo (begun : State) (commands : List Command) (given : State) : T
   pub annealing : (before annealings : List Command) (job : JobValue) → before ++ annealings ≡ commands → list_all is_annealing annealings ≡ true
       → after begun before ≡ Loaded job → given ≡ Loaded (annealed job (sum_by steps_of annealings))
 
--- The recovered commands lead from the state that this image recovers to, to the given state.
+-- This image recovers to a state, and the recovered commands lead from that state to the given one.
 pub record IsFold (image : List ℕ) (rounds : List Round) (runs : List Run) (given : State) : Type 0 where
   pub begun : State
   pub stands : RecoversTo Two image begun

@@ -101,7 +101,7 @@ ReadsAfterOpening (Ok x) possible before after = after ≡ before
 ReadsAfterOpening (Err fault) possible before after = ReadsAfter fault possible before after
 
 module _ {D : Type 0} (on : sectors.Ghosts D) where
-  -- The effect of a sync and the reads after it, or of only those of these calls that were made. After Ok, the
+  -- The effect of a sync and the reads after it, even if only some of these calls were made. After Ok, the
   -- bytes that reads returned are durable. Each image that a crash leaves at any moment was possible before.
   -- Reads return the same as before, or after a failed call an image that was possible.
   pub record Settles {T : Type 0} (result : Result T StoreFault) (old new : D) : Type 0 where

@@ -5,8 +5,8 @@ use Rattle.recover.specs.declared.denials.Denial.{Denial}
 use Rattle.recover.specs.declared.denials.Denial.TheVariants.{Broken, Core, Spent, OutOfMemory, DeviceFault}
 use Rattle.recover.specs.declared.replies.Reply.{Reply}
 
--- a command, if it was kept, before the commands that follow; after a failure of the device no later command is
--- kept
+-- the kept commands from `command` on; `rest` has the kept ones after it. A command that was not kept is left
+-- out. After a failure of the device no later command is kept
 abbrev pub kept_first : {T : Type 0} → Command → Result T Denial → List Command → List Command
 kept_first command (Ok done) rest = command ∷ rest
 kept_first command (Err DeviceFault) rest = command ∷ []

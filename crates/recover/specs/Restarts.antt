@@ -84,7 +84,7 @@ pub record EndsRestarts (device : MemDevice) (restarts : List Restart) (runs : L
   pub done : AreRestarts device restarts runs left
   pub opened : IsMemoryOpened left session
 
--- The kept commands and the number of acknowledged ones, for each restart that was opened.
+-- The kept commands and the number of acknowledged ones, for each restart whose opening succeeded.
 abbrev pub kept_by : List Restart → List (Result Run StoreFault) → List (List Command × ℕ)
 kept_by (restart ∷ restarts) (Ok run ∷ runs) = (kept restart.commands.items run.replies.items, count_ok run.replies.items) ∷ kept_by restarts runs
 kept_by (restart ∷ restarts) (Err fault ∷ runs) = kept_by restarts runs
@@ -97,7 +97,7 @@ IsFirstOpened [] = ⊤
 IsFirstOpened (Ok run ∷ runs) = ⊤
 IsFirstOpened (Err fault ∷ runs) = ⊥
 
--- The restarts that were opened are links. The first one begins with a state that an image of the device
+-- The restarts whose opening succeeded are links. The first one begins with a state that an image of the device
 -- recovers to, and the recovered commands lead from there to the given state.
 pub record AreJoined (device : MemDevice) (restarts : List Restart) (runs : List (Result Run StoreFault)) (given : State) : Type 0 where
   pub image : List ℕ
@@ -111,7 +111,7 @@ pub record AreJoined (device : MemDevice) (restarts : List Restart) (runs : List
   pub linked : AreLinked begun links given
   pub leads : LeadsTo begun (recovered_commands_in begun links given linked) given
 
--- Some first restarts were executed, and for the next one there was no memory for the answers. Or all were
+-- A prefix of the restarts was executed, and for the next one there was no memory for the answers. Or all were
 -- executed, and the last opening failed.
 pub record CutsRestarts (device : MemDevice) (restarts : List Restart) (fault : RoundsFault) (left : MemDevice) : Type 0 where
   pub runs : List (Result Run StoreFault)

@@ -60,12 +60,12 @@ pub record IsMemoryOpened (device : MemDevice) (session : SessionValue MemDevice
   pub faults : (memory session.device).faults ≡ (memory device).faults
   pub replayed : (steps : ℕ) × IsReplayed Two (seen_in device) session.state session.place steps
 
--- The device was set to fail after the calls of this crash, or is unchanged.
+-- If the round ends with a crash, the device is set to fail after the calls of this crash.
 abbrev pub IsSet : Option Halt → MemDevice → Type 0
 IsSet None device = ⊤
 IsSet (Some halt) device = (memory device).fuse ≡ Some halt.calls
 
--- The device is as it was closed, or it crashed with these choices and is no longer set to fail.
+-- The device is as the session left it, or it crashed with these choices and is no longer set to fail.
 abbrev pub IsLeft : Option Halt → MemDevice → MemDevice → Type 0
 IsLeft None closed left = left ≡ closed
 IsLeft (Some halt) closed left = Crashes (λ i. slice_index halt.choices.items i) (memory closed) (memory left)
@@ -111,8 +111,8 @@ pub record EndsRounds (device : MemDevice) (rounds : List Round) (runs : List Ru
   pub done : AreRounds device rounds runs left
   pub opened : IsMemoryOpened left session
 
--- Some first rounds were executed, and the next one did not begin. Or all were executed, and the last opening
--- failed.
+-- A prefix of the rounds was executed, and the next one did not begin. Or all were executed, and the last
+-- opening failed.
 pub record CutsRounds (device : MemDevice) (rounds : List Round) (fault : RoundsFault) (left : MemDevice) : Type 0 where
   pub runs : List Run
   pub mid : MemDevice

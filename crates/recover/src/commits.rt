@@ -42,7 +42,7 @@ fn cause(fault: StoreFault) -> CommitFault
     }
 }
 
-/// Returns whether a snapshot is due: the command has no record, or the journal already has 256.
+/// Returns whether a snapshot is due: the command has no record, or the journal already has 256 records.
 pub(crate) fn is_snapshot_due(place: Place, command: &Command) -> bool
     ensures { result ≡ is_snapshot_due place command.now }
 {

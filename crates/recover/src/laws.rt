@@ -23,8 +23,8 @@ pub fn recovery_keeps_every_acknowledged_command<D: Sectors, E: Sectors>()
 }
 
 /// Proves that `apply` is a run of one command, and that two consecutive runs of a session are one run of the
-/// joined lists. At each moment of both, a crash leaves what the joined run guarantees, so the headline applies
-/// to all commands of a session together.
+/// joined lists. At each moment of the two runs a crash leaves what the joined run guarantees, so the headline
+/// applies to all commands of a session together.
 pub fn runs_compose<D: Sectors>()
     ensures applied { AppliesAreRuns D.Sectors }
     ensures joined { RunsConcatenate D.Sectors }
@@ -47,9 +47,9 @@ pub fn crashed_openings_can_be_retried<D: Sectors, E: Sectors>()
 }
 
 /// Proves that restarts compose. Consider any list of restarts, each beginning with the state that the previous
-/// one returned. The commands that they recover, joined, lead from the first state to the last. For each run
-/// these are all acknowledged ones, and at most one more. Each restart is as the headline guarantees; the
-/// devices may differ.
+/// one returned. The commands that they recover, joined, lead from the first state to the last. From each run
+/// every acknowledged command is recovered, and at most one more. Each restart is as the headline guarantees;
+/// the devices may differ.
 pub fn restarts_compose()
     ensures { LinksCompose }
 {

@@ -21,16 +21,16 @@
 //! - `laws`: the main law, `recovery_keeps_every_acknowledged_command` (called the headline), how it composes
 //!   over runs and openings, and that closed and new stores open with their states
 //! - `rounds`: the headline over any list of crashes and restarts of a device in memory, which is always honest
-//! - `restarts`: the same with kills, and with openings that crash or are refused
+//! - `restarts`: like `rounds`, but also with kills, and with openings that crash or are refused
 //!
 //! Source: this project's own.
 //!
 //! Proved, for devices that answer as the model says: after a crash at any moment, an opening that succeeds
 //! returns the state after a prefix of the commands. The prefix has every acknowledged command and at most one
 //! more, and the plan of the state passes the auditor. This holds over any number of runs, crashes, kills,
-//! crashed openings and restarts (`laws`, `run_rounds`, `run_restarts`). At each moment of an upgrade the old
-//! device's images are among those at entry, and after `Ok` each image of the new device recovers to the old
-//! one's state.
+//! crashed openings and restarts (`laws`, `run_rounds`, `run_restarts`). At each moment of an upgrade each
+//! image of the old device is one of those at entry. After `Ok` each image of the new device recovers to the
+//! state of the old store.
 #![tactic(auto)]
 
 mod commits;

@@ -35,8 +35,8 @@ pub(crate) struct RecoveredState {
     pub replayed: u64,
 }
 
-// Syncs the device, so that the image that reads return is durable, and loads the content of that image. One
-// call finishes; a device smaller than any store is not called.
+// Syncs the device, so that the image that reads return is durable, and loads the content of that image. Only
+// the sync counts as a finished call. A device smaller than any store is not called.
 fn sync_and_load<D: Sectors>(
     alloc: Global,
     device: &mut D,
@@ -91,7 +91,7 @@ pub(crate) fn recover<D: Sectors>(
 /// Recovers the state of the device's store by reading only. Nothing is synced, so this works on a device that
 /// can't be written. The bytes that reads return may not be durable yet.
 ///
-/// It is refused only if the image recovers to no state, if memory runs out or if the device fails.
+/// Returns a fault only if the image recovers to no state, if memory runs out or if the device fails.
 pub fn read_state<D: Sectors>(alloc: Global, device: &mut D) -> Result<State, StoreFault>
     ensures given { D.honest device.new → MatchResult result (RecoversTo Two (D.seen device.old))
         (UnlessReadFailed (RecoversToNothing Two (D.seen device.old))) }
@@ -106,9 +106,6 @@ pub fn read_state<D: Sectors>(alloc: Global, device: &mut D) -> Result<State, St
 
 /// Returns the number of search steps that opening this device will replay: those of the searches among the
 /// records. It only reads, so the number can be printed before the first step runs.
-///
-/// Reads may return bytes that are not durable yet. The sync of `open` makes them durable, so `open` reads the
-/// same bytes. Only `open` refuses records whose commands are not all accepted.
 pub fn steps_to_replay<D: Sectors>(alloc: Global, device: &mut D) -> Result<u64, StoreFault>
     ensures found { D.honest device.new
         → MatchResult result (IsStepsToReplay Two (D.seen device.old))

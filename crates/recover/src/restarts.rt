@@ -22,9 +22,9 @@ use plan_audit::passes_decides_the_verdict;
 use sector_disk::MemDevice;
 use std::alloc::Global;
 
-/// The end of a restart. With `calls`, every call fails once this many more calls of the device have finished,
-/// counted from before the opening. An opening syncs and then reads, so with 0 or 1 the opening itself fails.
-/// If the commands make fewer calls, the end comes after the last command.
+/// The end of a restart. If it has `calls`, the device fails every call after this many finished ones, counted
+/// from before the opening. An opening syncs and then reads, so with 0 or 1 the opening itself fails. If the
+/// commands make fewer calls, the end comes after the last command.
 #[derive(Debug, Drop)]
 pub enum Ending {
     /// The session is closed.
@@ -137,11 +137,11 @@ fn run_restart(
 /// Executes restarts, one after another, and opens the store once more.
 ///
 /// Wherever the process was killed or the device crashed, during an opening or after it, the session's state is
-/// the one after the recovered commands of all restarts, joined. For each restart that was opened these are a
-/// prefix of its commands, with all acknowledged ones and at most one more. The plan passes the auditor and
-/// costs no more than any incumbent since the last change of requests or pins among these commands. Consecutive
-/// searches count as one search, and so do annealings. A restart whose opening fails adds nothing, and the next
-/// one continues.
+/// the one after the recovered commands of all restarts, joined. From a restart whose opening succeeded a
+/// prefix of its commands is recovered, with all acknowledged ones and at most one more. The plan passes the
+/// auditor and costs no more than any incumbent since the last change of requests or pins among these commands.
+/// Consecutive searches count as one search, and so do annealings. A restart whose opening fails adds nothing,
+/// and the next one continues.
 pub fn run_restarts(
     alloc: Global,
     device: MemDevice,

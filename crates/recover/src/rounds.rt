@@ -20,7 +20,7 @@ use sector_disk::MemDevice;
 use std::alloc::Global;
 use thiserror::Error;
 
-/// A crash of a round, and what it leaves.
+/// The crash that ends a round, and what it leaves.
 #[derive(Debug, Drop)]
 pub struct Halt {
     /// Every call fails once this many more calls of the device have finished, counted from the end of the
@@ -130,9 +130,10 @@ pub(crate) fn reopen(
     }
 }
 
-/// Executes a round on a device in memory: opens the store, executes the commands, and closes or crashes it.
+/// Executes a round on a device in memory: opens the store, executes the commands, and closes the session or
+/// crashes the device.
 ///
-/// It answers `Ok` only if the image that reads return recovers to a state. The commands are then executed from
+/// Returns `Ok` only if the image that reads return recovers to a state. The commands are then executed from
 /// that state on, and answered as `apply` answers them one after another. If there is no memory for the
 /// answers, this is reported before the device is called.
 pub fn run_round(
@@ -156,11 +157,11 @@ pub fn run_round(
 
 /// Executes rounds, one after another, and opens the store once more.
 ///
-/// The session's state is the one after the recovered commands of all rounds, joined. For each round these are
-/// a prefix of its commands, with all acknowledged ones and at most one more. The plan passes the auditor and
-/// costs no more than any incumbent since the last change of requests or pins among these commands. Consecutive
-/// searches count as one search, wherever the rounds divide them, and so do annealings. A fault leaves the
-/// device as the previous rounds left it.
+/// The session's state is the one after the recovered commands of all rounds, joined. From each round a prefix
+/// of its commands is recovered, with all acknowledged ones and at most one more. The plan passes the auditor
+/// and costs no more than any incumbent since the last change of requests or pins among these commands.
+/// Consecutive searches count as one search, wherever the rounds divide them, and so do annealings. A fault
+/// leaves the device as the previous rounds left it.
 pub fn run_rounds(
     alloc: Global,
     device: MemDevice,

@@ -19,8 +19,8 @@ use sector_disk::{MemDevice, Sectors};
 use std::alloc::Global;
 use std::marker::Model;
 
-/// An open store that accepts commands. Unless it is broken, and if its device is honest, each image that a
-/// crash may leave recovers to its state.
+/// An open store that accepts commands. Unless the session is broken, and if the device is honest, each image
+/// that a crash may leave recovers to the session's state.
 #[derive(Drop)]
 pub struct Session<D: Sectors> {
     device: D,

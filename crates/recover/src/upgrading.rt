@@ -1,8 +1,8 @@
 //! Upgrades a store of version 1 to one of the current version.
 //!
-//! The old device is read as `open` reads one, with the encoding and limits of version 1. The new one is
-//! formatted as by `format`, with the state that was read. So no code writes version 1, and the old store does
-//! not change. Reading and formatting are also available separately (`read_version_1`, `format_with` of
+//! The old device is read as `open` reads a device, with the encoding and limits of version 1. The new device
+//! is formatted as by `format`, with the state that was read. So no code writes version 1, and the old store
+//! does not change. Reading and formatting are also available separately (`read_version_1`, `format_with` of
 //! `checkpoint`), so that a caller can read the old device completely before it creates the new one.
 ghost use Rattle.std.specs.Prelude.{◌≡◌, ◌<◌, ◌↔◌, IfErr, IsErrOf};
 ghost use Rattle.checkpoint.specs.Layouts.{version_2, sectors_in};
@@ -45,7 +45,7 @@ impl UpgradeFault {
 /// records, all by the limits of version 1. The device is synced and read, and never written to. So at each
 /// moment its images recover to the same state as before, even if reading is refused.
 ///
-/// It is refused only if the image recovers to no state of version 1, if memory runs out or if the device
+/// Returns a fault only if the image recovers to no state of version 1, if memory runs out or if the device
 /// fails. A device of fewer than 802 sectors is `NotFormatted`, and is not called.
 pub fn read_version_1<D: Sectors>(alloc: Global, old: &mut D) -> Result<State, StoreFault>
     ensures { ReadsOldStore D.Sectors result old.old old.new }

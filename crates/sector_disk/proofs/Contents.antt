@@ -125,7 +125,8 @@ contents-calls disk (call ∷ calls) i all =
     ∙ append_assoc (disk.contents i) (option_to_list (content_of i call)) (filter_map (content_of i) calls)
     ∙ ap (λ (l : List (List ℕ)). disk.contents i ++ l) (sym (cons-option (content_of i call) call calls i refl))
 
--- After settled calls and then only writes, a sector has its synced content and those that were written since.
+-- After calls that settle the device and then only writes, a sector has its synced content and those written
+-- since.
 pub contents-stopped : (start : List ℕ) (front back : List Call) (i : ℕ) → IsSettledBy front → IsTrue (list_all is_write back)
     → (run (settled start) (flat_map events_of (front ++ back))).contents i
     ≡ sector i (run (settled start) (flat_map events_of front)).seen ∷ filter_map (content_of i) back
@@ -145,7 +146,7 @@ get_within [] n lt is = absurd (omega arith)
 get_within (y ∷ ys) zero lt is = cc
 get_within (y ∷ ys) (suc n) lt is = get_within ys n (omega arith) is
 
--- The content with the chosen number, modulo their count.
+-- The content that a crash chooses by the number `choice`, modulo how many contents there are.
 module _ (synced : List ℕ) (since : List (List ℕ)) (choice count : ℕ) (counted : count ≡ length since) where
   number_is : choice % length (synced ∷ since) ≡ choice % (count + 1)
   number_is = let size : length (synced ∷ since) ≡ count + 1 = omega (arith, counted) in ap (λ (n : ℕ). choice % n) size

@@ -17,7 +17,7 @@ has_one_image n disk image size = (
   λ is. subst (IsImage n (next disk Sync)) (sym is) (settled_image n disk.seen size),
 )
 
--- the first j sectors of the bytes
+-- the first j sectors of the bytes depend only on the first 512 * j bytes
 sectors_of_front : (first : ℕ) (bytes : List ℕ) (j : ℕ) → sectors_from first (take (512 * j) bytes) j ≡ sectors_from first bytes j
 sectors_of_front first bytes zero = refl
 sectors_of_front first bytes (suc j) =

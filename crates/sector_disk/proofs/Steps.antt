@@ -125,7 +125,7 @@ pub is_none : (r : Option (Bor (List ℕ))) → ((x : Bor (List ℕ)) → r ≡ 
 is_none None h = refl
 is_none (Some x) h = absurd (h x refl)
 
--- If the content is not the next one, one fewer remains to be skipped.
+-- If the first content is not the wanted one, one fewer remains to be skipped.
 pub slice_get_later : (x : List ℕ) (xs : List (List ℕ)) (n : ℕ) → 0 < n → slice_get (x ∷ xs) n ≡ slice_get xs (n - 1)
 slice_get_later x xs zero h = absurd (omega arith)
 slice_get_later x xs (suc n) h = ap (slice_get xs) (omega arith)

@@ -20,7 +20,8 @@ is_write (Wrote first bytes) = true
 is_write (Tore first bytes) = true
 is_write Synced = false
 
--- The content with this number, modulo their count: first the synced one, then those written since.
+-- The content that a crash chooses by the number `choice`, modulo how many contents there are. Number 0 is the
+-- synced content, and those written since follow.
 abbrev pub chosen : List ℕ → List (List ℕ) → ℕ → List ℕ
 chosen synced since choice = slice_index_or (synced ∷ since) (choice % length (synced ∷ since)) []
 

@@ -20,7 +20,7 @@ seen_in c = (disk_in c).seen
 abbrev pub MayLeaveIn : History → List ℕ → Type 0
 MayLeaveIn c image = IsImage c.sectors (disk_in c) image
 
--- the current moment; moments are numbered by the events so far
+-- the current moment: the number of events so far
 abbrev pub clock_in : History → ℕ
 clock_in c = length c.events
 

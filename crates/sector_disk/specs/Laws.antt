@@ -8,8 +8,8 @@ use Rattle.sector_disk.specs.Memory.{Memory, len_of, disk_of, MayLeave, TakesCho
 abbrev pub HasOneImage : Type 0
 HasOneImage = (n : ℕ) (disk : Disk) (image : List ℕ) → length disk.seen ≡ 512 * n → IsImage n (next disk Sync) image ↔ (image ≡ (next disk Sync).seen)
 
--- A crash within a write, when j of its sectors were written: each of them has its old content or the new one,
--- independently of the others, and every such image is possible.
+-- A crash within a write of which j sectors have been written: each of these has its old content or the new
+-- one, independently of the others, and every such image is possible.
 abbrev pub HasOldOrNew : Type 0
 HasOldOrNew =
     (n first j : ℕ) (disk : Disk) (bytes image : List ℕ) → length bytes % 512 ≡ 0 → 512 * first + length bytes ≤ 512 * n → 512 * j ≤ length bytes

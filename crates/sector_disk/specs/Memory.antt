@@ -112,12 +112,12 @@ abbrev pub is_now : Option ℕ → Bool
 is_now None = false
 is_now (Some k) = k == 0
 
--- One call fewer until all calls fail.
+-- The fuse after one more finished call.
 abbrev pub one_less : Option ℕ → Option ℕ
 one_less None = None
 one_less (Some k) = Some (k - 1)
 
--- One call fewer until the single call that fails; None after that call.
+-- The count until the single call that fails, after one more call; None after the call that fails.
 abbrev pub one_less_or_none : Option ℕ → Option ℕ
 one_less_or_none None = None
 one_less_or_none (Some k) = if k == 0 then None else Some (k - 1)
@@ -131,7 +131,7 @@ is_due m = is_now m.once || is_now m.fuse
 abbrev pub is_refused : Memory → Bool
 is_refused m = is_due m || m.calls == 2 ^ 64 - 1
 
--- The sectors of a write that fails now are possible contents. With a fuse this holds only for the first failed
+-- A crash may leave the contents of a write that fails now. With a fuse this holds only for the first failed
 -- write.
 abbrev pub tears : Memory → Bool
 tears m = is_now m.once || (is_now m.fuse && not m.torn)
@@ -157,7 +157,7 @@ done m call =
 abbrev pub read_of : Memory → Outcome
 read_of m = if is_due m then failed m else record { ok = true; state = record m { once = one_less_or_none m.once } }
 
--- A write that fails and whose sectors are possible contents.
+-- A write that fails, and whose contents a crash may leave.
 abbrev pub torn_by : Memory → Call → Outcome
 torn_by m call =
     record { ok = false; state = record (with_fault m) { history = m.history ++ call ∷ []; torn = m.torn || is_now m.fuse; once = one_less_or_none m.once } }
@@ -173,8 +173,8 @@ sync_of m = if is_refused m then failed m else done m Synced
 abbrev pub HasOutcome : {T E : Type 0} → Outcome → Result T E → Memory → Type 0
 HasOutcome outcome result new = (is_ok result ≡ outcome.ok) × (new ≡ outcome.state)
 
--- That outcome, or the call ran out of memory: then it failed, and changed nothing but the number of failed
--- calls.
+-- The call had this outcome, or it ran out of memory: then it failed, and changed nothing but the number of
+-- failed calls.
 abbrev pub HasOutcomeOrNoMemory : {T E : Type 0} → Memory → Outcome → Result T E → Memory → Type 0
 HasOutcomeOrNoMemory old outcome result new = HasOutcome outcome result new ⊎ ((is_ok result ≡ false) × (new ≡ with_fault old))
 
@@ -194,7 +194,8 @@ pub record IsSameDevice (old new : Memory) : Type 0 where
   pub clock : clock_of new ≡ clock_of old
   pub moments : (from calls : ℕ) (image : List ℕ) → MayHaveLeft new from calls image ↔ MayHaveLeft old from calls image
 
--- Each of n sectors has its possible content with the chosen number, modulo their count.
+-- Each of n sectors has one of its possible contents: the one with the chosen number, modulo how many there
+-- are.
 abbrev pub TakesChoices : ℕ → Disk → (ℕ → ℕ) → List ℕ → Type 0
 TakesChoices n disk choices image =
     (i : ℕ) → i < n → (let contents = disk.contents i in sector i image ≡ slice_index_or contents (choices i % length contents) [])

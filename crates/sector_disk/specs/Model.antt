@@ -45,7 +45,7 @@ pub record IsImage (n : ℕ) (disk : Disk) (image : List ℕ) : Type 0 where
 abbrev pub CrashesTo : ℕ → Disk → Disk → Type 0
 CrashesTo n old new = (image : List ℕ) × IsImage n old image × (new ≡ settled image)
 
--- This many sectors of the bytes, one after another, from sector `first` on.
+-- The events of writing the first n sectors of these bytes, one after another, from sector `first` on.
 abbrev pub sectors_from : ℕ → List ℕ → ℕ → List Event
 sectors_from first bytes zero = []
 sectors_from first bytes (suc n) = Sector first (take 512 bytes) ∷ sectors_from (suc first) (drop 512 bytes) n

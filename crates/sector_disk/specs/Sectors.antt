@@ -6,7 +6,7 @@ use Rattle.sector_disk.specs.Image.{written, Mixes}
 abbrev pub calls_after : {T E : Type 0} → Result T E → ℕ → ℕ
 calls_after result calls = if is_ok result then calls + 1 else calls
 
--- The number of failed calls after one more call. It stays at 2^64-1.
+-- The number of failed calls after one more call, which may have failed. It never exceeds 2^64-1.
 abbrev pub faults_after : {T E : Type 0} → Result T E → ℕ → ℕ
 faults_after result faults = if is_ok result then faults else min (faults + 1) (2 ^ 64 - 1)
 
@@ -16,7 +16,7 @@ pub record IsWholeRun (first size sectors : ℕ) : Type 0 where
   pub whole : size % 512 ≡ 0
   pub inside : 512 * first + size ≤ 512 * sectors
 
--- The number of finished calls after a call, from the number before it. A read does not change it.
+-- The numbers of finished calls before and after a read are equal.
 abbrev pub same_count : ℕ → ℕ → Type 0
 same_count before after = after ≡ before
 
@@ -29,8 +29,8 @@ pub record OneMore {T E : Type 0} (result : Result T E) (before after : ℕ) : T
 abbrev pub more : {T E : Type 0} → Result T E → ℕ → ℕ → ℕ → Type 0
 more result n before after = OnOk result (after ≡ before + n)
 
--- The part of a device that calls preserve, whatever they answer: its length, and honesty, which holds after
--- the calls only if it held before. The counts of finished and failed calls advance.
+-- The guarantees of calls, whatever they answer. The length is preserved. Honesty holds after the calls only if
+-- it held before. The counts of finished and failed calls change as `finish` and `faults_then` say.
 pub record IsCalled {D : Type 0} (len calls faults : D → ℕ) (honest : D → Type 0) (finish : ℕ → ℕ → Type 0) (faults_then : ℕ → ℕ) (old new : D) : Type 0 where
   pub same_len : len new ≡ len old
   pub finished : finish (calls old) (calls new)
@@ -66,7 +66,8 @@ pub record Elapses (before now : ℕ) (past since : ℕ → ℕ → List ℕ →
       → past t m image ⊎ ((m ≡ old_calls) × within image) ⊎ ((m ≡ new_calls) × possible image)
   pub keeps : (t m : ℕ) (image : List ℕ) → t ≤ before → past t m image → since t m image
 
--- The moments of one call of a device are added. A crash within the call leaves one of the images `within`.
+-- From `old` to `new` the moments of one call are added. A crash within the call leaves one of the images
+-- `within`.
 abbrev pub Passes : {D : Type 0} → (D → ℕ) → (D → ℕ → ℕ → List ℕ → Type 0) → (D → ℕ) → (D → List ℕ → Type 0) → (List ℕ → Type 0) → D → D → Type 0
 Passes clock since calls possible within old new = Elapses (clock old) (clock new) (since old) (since new) (calls old) (calls new) within (possible new)
 

@@ -24,7 +24,7 @@ use std::alloc::{AllocError, Global};
 #[derive(Drop)]
 enum Call {
     Write { first: u64, bytes: Vec<u8> },
-    /// A failed write whose sectors are possible contents nevertheless.
+    /// A failed write. A crash may leave its contents nevertheless.
     Torn { first: u64, bytes: Vec<u8> },
     Sync,
 }
@@ -155,7 +155,7 @@ impl MemDevice {
     }
 
     /// Makes every call fail after `k` more finished writes and syncs, until the device is crashed or revived.
-    /// The sectors of the first write that fails this way are possible contents.
+    /// A crash may leave the contents of the first write that fails this way.
     pub fn fuse(&mut self, k: u64)
         ensures set { memory self.new ≡ record (memory self.old) { fuse = Some k; torn = false } }
         ensures same { IsSameDevice (memory self.old) (memory self.new) }
@@ -164,7 +164,7 @@ impl MemDevice {
         self.torn = false;
     }
 
-    /// Makes the call after the next `k` calls of any kind fail. If it is a write, its sectors are possible
+    /// Makes the call after the next `k` calls of any kind fail. If it is a write, a crash may leave its
     /// contents.
     pub fn fail_once(&mut self, k: u64)
         ensures set { memory self.new ≡ record (memory self.old) { once = Some k } }
@@ -188,9 +188,9 @@ impl MemDevice {
         self.once = None;
     }
 
-    /// Crashes the device. Sector `i` takes the possible content with number `choices[i]`, modulo their count:
-    /// number 0 is the synced content, and those written since follow in order. A sector without an entry in
-    /// the list takes number 0. The fuse and the failure of `fail_once` are removed.
+    /// Crashes the device. Sector `i` takes one of its possible contents: the one with number `choices[i]`,
+    /// modulo how many there are. Number 0 is the synced content, and those written since follow in order. A
+    /// sector without an entry in the list takes number 0. The fuse and the failure of `fail_once` are removed.
     pub fn crash(&mut self, choices: &[u32])
         ensures image { Crashes (λ i. slice_index choices.now i) (memory self.old)
             (memory self.new) }
@@ -222,14 +222,14 @@ impl MemDevice {
         self.is_due() || self.calls == u64::MAX
     }
 
-    // Returns whether the sectors of a write that fails now are possible contents.
+    // Returns whether a crash may leave the contents of a write that fails now.
     fn tears(&self) -> bool
         ensures { result ≡ tears (memory self.now) }
     {
         is_now(self.once) || is_now(self.fuse) && !self.torn
     }
 
-    /// Performs `Sectors::read`, with an exact contract of a device in memory.
+    /// Performs `Sectors::read`, with an exact contract for a device in memory.
     pub fn try_read(&mut self, first: u64, into: &mut [u8]) -> Result<(), DeviceFault>
         requires { 512 * first + length into.old ≤ 512 * len_of (memory self.old) }
         ensures exact { HasOutcome (read_of (memory self.old)) result (memory self.new) }
@@ -244,7 +244,7 @@ impl MemDevice {
         Ok(())
     }
 
-    /// Performs `Sectors::write`, with an exact contract of a device in memory. Only a write that is added to
+    /// Performs `Sectors::write`, with an exact contract for a device in memory. Only a write that is added to
     /// the history can run out of memory.
     pub fn try_write(&mut self, first: u64, bytes: &[u8]) -> Result<(), DeviceFault>
         requires { IsWholeRun first (length bytes.now) (len_of (memory self.old)) }
@@ -271,7 +271,7 @@ impl MemDevice {
         Ok(())
     }
 
-    /// Performs `Sectors::sync`, with an exact contract of a device in memory.
+    /// Performs `Sectors::sync`, with an exact contract for a device in memory.
     pub fn try_sync(&mut self) -> Result<(), DeviceFault>
         ensures exact { HasOutcomeOrNoMemory (memory self.old) (sync_of (memory self.old)) result
             (memory self.new) }

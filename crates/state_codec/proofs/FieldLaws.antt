@@ -126,7 +126,7 @@ back8 (a ∷ b ∷ []) fits le = absurd (omega arith)
 back8 (a ∷ []) fits le = absurd (omega arith)
 back8 [] fits le = absurd (omega arith)
 
--- Reading a number and writing it again yields the same bytes, for numbers of this size
+-- Reading a number of `size` bytes and writing it again yields the same bytes
 abbrev pub IsSize : ℕ → Type 0
 IsSize size = (bytes : List ℕ) → IsBytes bytes → size ≤ length bytes → big_bytes size (big_number size bytes) ≡ take size bytes
 

@@ -20,7 +20,8 @@ use Rattle.state_codec.specs.Reading.{whole_state_at}
 abbrev pub IsPlanRefused : Instance → List (List ℕ) → List (List ℕ) → ℕ → Type 0
 IsPlanRefused p pins routes rule = (r : ℕ) × (i : ℕ) × (n : ℕ) × IsVerdict p (planned routes pins) (Broken rule r i n)
 
--- The first pin that breaks one of the rules 3 to 8 by itself; this is the lowest-numbered rule that it breaks
+-- The first pin that is not feasible by itself breaks this rule. It is the first of the rules 3 to 8 that the
+-- pin breaks
 abbrev pub IsPinRefused : Instance → List (List ℕ) → ℕ → Type 0
 IsPinRefused p [] rule = ⊥
 IsPinRefused p (pin ∷ pins) rule = IsFaultAlone p pin rule ⊎ (IsFeasibleAlone p pin × IsPinRefused p pins rule)
@@ -42,7 +43,7 @@ Decodes v bytes (Err BadField) = whole_state_at v bytes ≡ Err BadField
 Decodes v bytes (Err (PlanRefused rule)) = (j : JobValue) × (whole_state_at v bytes ≡ Ok (Some j)) × (bytes ≡ state_bytes v (Loaded j)) × IsStateOf v (Loaded j) × IsRefused j rule
 Decodes v bytes (Err OutOfMemory) = Unit {0}
 
--- The result of reading: nothing is loaded, or a job
+-- The state as it is read: no job, or a job
 abbrev pub option_of : State → Option JobValue
 option_of Empty = None
 option_of (Loaded j) = Some j

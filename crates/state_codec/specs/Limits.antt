@@ -41,8 +41,8 @@ abbrev pub IsDeviationOf : Version → ℕ → Type 0
 IsDeviationOf One d = ⊥
 IsDeviationOf Two d = d ≤ max_deviation
 
--- The commands that have a record, with fields within their limits. For the others a store writes snapshots.
--- Numbers of requests, vehicles and places may have any value.
+-- The commands that have a record, with fields within their limits. For other commands a store writes
+-- snapshots. Numbers of requests, vehicles and places may have any value for which the version has room.
 abbrev pub IsRecorded : Version → Command → Type 0
 IsRecorded v (Add demand pickup delivery) = (is_demand demand && (is_spot pickup && is_spot delivery)) ≡ true
 IsRecorded v (Add1 demand spot) = (is_demand demand && is_spot spot) ≡ true

@@ -94,7 +94,7 @@ fn depot_at(bytes: &[u8]) -> Field<'_, Stop>
     Ok((depot, rest))
 }
 
-// Reads the deviation: by how much the working plan may be longer.
+// Reads the deviation: the limit by which the distance of the working plan may exceed that of the plan.
 fn job_deviation_at(version: Version, bytes: &[u8]) -> Field<'_, u32>
     ensures { Reads (λ x. (x.0, x.1.now)) result (job_deviation_at version bytes.now) }
 {

@@ -15,8 +15,8 @@ pub fn encodings_fit()
     numbers_are_below_next_number();
 }
 
-/// Proves that two states with the same encoding are equal, if they satisfy their invariants, and that two
-/// records with the same bytes have the same sequence, index and command.
+/// Proves that two states that satisfy their invariants are equal if their encodings are, and that two records
+/// with the same bytes have the same sequence, index and command.
 pub fn encodings_are_injective()
     ensures states { StateEncodingIsInjective }
     ensures records { RecordEncodingIsInjective }

@@ -14,14 +14,15 @@ use crate::version::Version;
 use plan_types::limits::{MAX_DEMAND, MAX_SERVICE};
 use plan_types::{Problem, Request, Stop};
 
-// Returns whether the number may name the next request.
+// Returns whether a request with this name may follow those of the problem.
 fn is_name(problem: &Problem, next: u32, number: u32) -> bool
     ensures { result ≡ is_name next problem.now.requests number }
 {
     1 <= number && number < next && is_above_names(problem, number) && is_free(problem, number)
 }
 
-// Returns whether the number is above the names of all requests. The last name is the greatest.
+// Returns whether the number is above the names of all requests. It is enough to compare the last name, which
+// is the greatest.
 fn is_above_names(problem: &Problem, number: u32) -> bool
     ensures { result ≡ list_all (λ e. nat_lt e.0 number) problem.now.requests }
 {
@@ -153,8 +154,8 @@ fn put_new(problem: &mut Problem, request: Request) -> Result<(), CodecFault>
     }
 }
 
-/// Reads `count` requests into a problem that has none. Each number is below the next one. The count alone
-/// reserves no memory.
+/// Reads `count` requests into a problem that has none. Each stop number has to be below `next`. The count
+/// alone reserves no memory.
 pub(crate) fn requests_at<'a>(
     version: Version,
     problem: Problem,

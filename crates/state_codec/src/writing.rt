@@ -187,8 +187,8 @@ fn put_head(out: &mut Vec<u8>, job: &Job) -> Result<(), OutOfMemory>
 fn put_job(out: &mut Vec<u8>, job: &Job) -> Result<(), OutOfMemory>
     ensures { OnOk result (out.new.items ≡ out.old.items ++ job_bytes Two job.now) }
 {
-    // No number occurs twice in a plan or in its requests, and each is below the next one, so all lengths are
-    // small.
+    // No stop number occurs twice in a plan or in its requests, and each is below `next_number`, so all lengths
+    // are small.
     numbers_are_below_next_number();
     let problem = &job.problem;
     put_head(out, job)?;

@@ -37,8 +37,8 @@ fn write_store_v1(
     write_sector(rt, device, 3, &sector_of(second))
 }
 
-// Returns why the old device is not upgraded to a new one of this size, and the number of calls that both
-// devices have finished since.
+// Returns why the old device is not upgraded to a new one of this size, and the numbers of calls that the
+// upgrade has finished on both devices.
 fn upgrade_outcome(
     alloc: Global,
     mut old: MemDevice,

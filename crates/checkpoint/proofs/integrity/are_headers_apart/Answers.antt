@@ -1,4 +1,4 @@
--- If another valid header does not have the sequence just before, the warning is reported.
+-- If the other header is valid and its sequence is not one less than that of `header`, the warning is reported.
 use Rattle.checkpoint.proofs.IntegrityLemmas.{apart}
 use Rattle.checkpoint.proofs.integrity.are_headers_apart.Goals as goal
 

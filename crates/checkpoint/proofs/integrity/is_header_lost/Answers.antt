@@ -1,4 +1,5 @@
--- A header is lost if only this one is valid, unless it is the first header beside a blank sector.
+-- A header is lost if only `header` is valid, unless `header` is the first one and the other header sector is
+-- blank.
 use Rattle.std.proofs.Common.{◌∙◌, ap, arith}
 use Rattle.checkpoint.specs.Integrity.{is_blank}
 use Rattle.checkpoint.proofs.IntegrityLemmas.{lost_where_filled, lost_where_old, not_lost}

@@ -1,4 +1,4 @@
--- A call that writes to the sector leaves one fewer to skip; any other call leaves the number unchanged.
+-- A call that writes to the sector leaves one content fewer to skip. Any other call does not change the number.
 use Rattle.std.proofs.Common.{◌≡◌, ◌∙◌, ◌+◌, ◌<◌, ℕ, List, Option, Some, None, map, drop, get_or, ap, sym, arith}
 use Rattle.std.specs.Prelude.{slice_get}
 use Rattle.std.specs.Option.{option_copied}

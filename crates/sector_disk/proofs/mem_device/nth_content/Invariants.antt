@@ -1,4 +1,5 @@
--- The content with the wanted number is among those of the remaining calls, after as many as are left to skip.
+-- The content with the wanted number is among the contents that the remaining calls write, after those that are
+-- still to be skipped.
 use Rattle.std.proofs.Common.{◌≡◌, map, drop}
 use Rattle.std.specs.Prelude.{slice_get}
 use Rattle.std.specs.List.{filter_map}

@@ -1,4 +1,4 @@
--- Reading one more item keeps the invariant. A fault is returned, and after the last item all are read
+-- Reading one more item keeps the invariant. A fault is returned, and after the last item all items are read
 use Rattle.std.proofs.lemmas.Result.{err_from_is_err_and}
 use Rattle.state_codec.specs.Reading.{times}
 use Rattle.state_codec.proofs.Loop.{goes_on, ends, is_done}

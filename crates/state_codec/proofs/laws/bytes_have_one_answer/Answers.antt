@@ -1,5 +1,5 @@
--- Bytes are those of a state and have no fault, or have exactly one; a sector is the record of a command or of
--- none
+-- Bytes are those of a state and have no fault, or have exactly one fault; a sector is the record of one
+-- command or of none
 use Rattle.state_codec.proofs.DecodeLaws.{decided}
 use Rattle.state_codec.proofs.ChoiceLemmas.{records_decided}
 use Rattle.state_codec.proofs.DecodeLemmas.{no_fault, one_fault}

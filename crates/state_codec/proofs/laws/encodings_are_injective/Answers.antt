@@ -1,4 +1,4 @@
--- States with the same bytes are equal, and so are sequence, index and command of records
+-- States with the same bytes are equal. Records with the same bytes have the same sequence, index and command
 use Rattle.state_codec.proofs.DecodeLemmas.{states_differ}
 use Rattle.state_codec.proofs.RecordLaws.{records_differ}
 use Rattle.state_codec.proofs.laws.encodings_are_injective.Goals as goal

@@ -1,4 +1,5 @@
--- A pin that is feasible by itself keeps the invariant; the first one that is not is refused by its rule
+-- A pin that is feasible by itself keeps the invariant; the first pin that is not is refused with the rule that
+-- it breaks
 use Rattle.std.proofs.Common.{◌≡◌, [], get_or, subst, ◌∙◌, List, ℕ}
 use Rattle.std.proofs.lemmas.List.{get_or_read}
 use Rattle.plan_audit.specs.Alone.{IsFeasibleAlone, IsFaultAlone}

@@ -1,4 +1,5 @@
--- A state that was read completely is checked: its fault is returned, or it is the job of its parts
+-- A state that was read completely is checked. The result is the fault that the check finds, or the job of the
+-- parts
 use Rattle.std.proofs.Common.{◌∙◌, Ok, ap, arith}
 use Rattle.std.specs.Option.{option_map}
 use Rattle.std.proofs.lemmas.Result.{err_from_is_err_and}

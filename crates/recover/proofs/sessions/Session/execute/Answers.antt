@@ -1,4 +1,4 @@
--- A command that is not denied is committed. Otherwise memory ran out, or the device failed and the session is
+-- A command that is not denied is committed, unless memory runs out, or the device fails and the session is
 -- broken.
 use Rattle.std.proofs.Common.{◌≡◌, ◌∙◌, ℕ, ◌+◌, ◌≤◌, List, [], ◌∷◌, false, ap, sym, subst}
 use Rattle.std.specs.Prelude.{None, Result, Ok, Err}

@@ -1,4 +1,4 @@
--- After the sync the image is still that of the calls.
+-- After the sync the image is still the one to which the calls lead.
 use Rattle.std.proofs.Common.{refl, rules}
 use Rattle.sector_disk.specs.Memory.{Synced}
 use Rattle.sector_disk.proofs.ConsistencySteps.{keeps}

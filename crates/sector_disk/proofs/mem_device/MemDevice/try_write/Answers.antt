@@ -1,5 +1,5 @@
--- A run within the device lies within its image. After a write, torn or finished, the image is still that of
--- the calls.
+-- A run within the device lies within its image. After a write, torn or finished, the image is still the one to
+-- which the calls lead.
 use Rattle.std.proofs.Common.{◌+◌, ◌*◌, ◌≤◌, length, drop, refl, rules, ap, arith, ◌∙◌}
 use Rattle.std.proofs.lemmas.List.{take_at}
 use Rattle.sector_disk.specs.Image.{written}
