@@ -49,7 +49,7 @@ missed_at p route x kind late =
     let here : is_late (row_after p route (x - 1)) ≡ true = lt-ltb _ _ (subst (λ j. (place p route j).latest < start p route j) (sym at) late.late) in
     late_missed p [] (rows_of p route) kind (any_at is_late (row_after p route) 0 (length route + 1) (x - 1) (omega arith) (omega (arith, late.from, late.to)) here)
 
--- ---- a stop after the first `at` stops, and another one after the first m of the route with it
+-- ---- a stop after the first `at` stops, and a second one after the first m stops of the route with the first
 module _ (p : Instance) (route : List ℕ) (first second at m : ℕ) (one : 1 ≤ at) (within : at ≤ length route) (later : at < m)
     (most : m ≤ length route + 1) (saves : DetoursSaveAtMostOne) where
   abbrev pickup : Stop

@@ -11,8 +11,8 @@ use Rattle.request_explanation.specs.Trials.{best_from, better, is_better, trial
 use Rattle.request_explanation.specs.declared.limit_violations.LimitViolation.{LimitViolation}
 use Rattle.request_explanation.specs.declared.trials.Trial.{Trial}
 
--- ---- a kind, an excess and a distance each
--- the tests on two kinds, excesses and distances: the first violates less, and the first is better
+-- ---- two trials by their kinds, excesses and distances
+-- the tests: the first trial violates less, and the first trial is better
 abbrev pub less : Bool → ℕ → Bool → ℕ → Bool
 less x e y f = if x then y && ltb e f else (y || ltb e f)
 

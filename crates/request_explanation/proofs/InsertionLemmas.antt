@@ -47,7 +47,7 @@ map_range_same f g a (suc n) same =
     ap (λ x. x ∷ map f (range_with_len (a + 1) n)) (same a (omega arith) (omega arith))
     ∙ ap (λ l. g a ∷ l) (map_range_same f g (a + 1) n (λ k from to. same k (omega arith) (omega arith)))
 
--- ---- what is found in two parts
+-- ---- what is found in two lists, one after the other
 map_or : {X Y : Type 0} (f : X → Y) (a b : Option X) → option_map f (option_or a b) ≡ option_or (option_map f a) (option_map f b)
 map_or f None b = refl
 map_or f (Some x) b = refl
