@@ -5,7 +5,7 @@ use std::alloc::Global;
 use std::io;
 use std::io::{ErrorKind, Read, Write};
 
-/// The limits of a reader: at most this many bytes per call, and this many calls before it fails.
+/// The limits of a reader: how many bytes it returns per call at most, and after how many calls it fails.
 #[derive(Clone, Copy)]
 pub(crate) struct Chunks {
     most: usize,

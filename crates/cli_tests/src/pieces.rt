@@ -30,7 +30,7 @@ const LOAD_OUT_OF_RANGE: &str = "load lilim 0 16777217\n";
 /// Commands that are refused after the device has failed in `build`. A `load` follows them.
 const REFUSED: &str = "show\nsearch 1\n";
 
-/// The answers to a load, a build and these commands if the device fails in the build.
+/// The answers to `LOAD`, `build`, the commands of `REFUSED` and `LOAD` again, if the device fails in `build`.
 const FAULT_IN_BUILD: &[u8] = b"ok\nfault device\nno Broken\nno Broken\nno Broken\n";
 
 /// Prints the answers, and how many of the failing runs end in a way that they should not.
@@ -107,7 +107,7 @@ fn served(
     Some(served)
 }
 
-// Returns the results of serving the first part, the first two parts, and so on.
+// Returns the results of serving none of the parts, the first part, the first two parts, and so on.
 fn stages(alloc: Global) -> Result<Vec<ServeResult>, AllocError> {
     let mut stages = Vec::new(alloc);
     for count in 0..PARTS.len() + 1 {
@@ -124,7 +124,7 @@ fn stage(alloc: Global, parts: &[&str]) -> Result<Option<ServeResult>, AllocErro
     Ok(served(alloc, &text, Chunks::whole(), LimitedWriter::whole(alloc)))
 }
 
-// Returns whether the output is that of some first parts, followed by a prefix of the next answer. The state
+// Returns whether the output is that of the first parts, followed by a prefix of the next answer. The state
 // must be the one before or after that answer, or one within a search.
 fn is_allowed(stages: &[ServeResult], stopped: &ServeResult) -> bool {
     stages.windows(2).any(|pair| match pair {
@@ -189,7 +189,7 @@ impl FaultyStream {
     }
 }
 
-/// The end of a serving.
+/// The end of serving an input with a stream that may fail.
 #[derive(Clone, Copy)]
 enum Ending {
     NoStore,
@@ -200,7 +200,7 @@ enum Ending {
     Wrong,
 }
 
-// Returns how a serving ended, compared with the fault that the failing stream must cause.
+// Returns how serving the input ended. `fault` is the fault that the failing stream must cause.
 fn ending_of(stages: &[ServeResult], stopped: &Option<ServeResult>, fault: ServeFault) -> Ending {
     match stopped {
         None => Ending::NoStore,
@@ -212,8 +212,8 @@ fn ending_of(stages: &[ServeResult], stopped: &Option<ServeResult>, fault: Serve
     }
 }
 
-// Runs all readers or writers that fail at one of their calls. Returns how many there are, and how many of them
-// end in a way that they should not.
+// Serves the input with a reader or writer that fails after 0 calls, after 1 call, and so on, until no call
+// fails. Returns the number of failing runs, and how many of them end in a way that they should not.
 fn failing_runs(
     alloc: Global,
     input: &[u8],
@@ -237,8 +237,8 @@ fn failing_runs(
     (1000, wrong)
 }
 
-// Prints the answer to a `load` that is out of range, in pieces of two sizes. Serving ends with it, and the
-// state stays the same.
+// Prints the answer to a `load` whose length is out of range, in pieces of two sizes. Serving ends after this
+// answer, and the state stays the same.
 fn refused_loads<W: Write>(
     alloc: Global,
     stages: &[ServeResult],
@@ -307,7 +307,7 @@ fn builds_of(alloc: Global, text: &[u8], loaded: &ServeResult, built: &ServeResu
     (in_build, wrong)
 }
 
-/// The position of the failed call.
+/// The position of the failed call: before `build`, within it, or after it.
 #[derive(Clone, Copy)]
 enum FaultPosition {
     Before,

@@ -37,7 +37,7 @@ once_more p kept n once new =
       distinct = one_more kept n once.distinct (not-true (list_any (λ m. m == n) kept) parts.1);
     }
 
--- the kept stops, if the next stop is new and if it is not
+-- the stops that are kept if the next stop is new, and if it is not
 pub kept_new : (p : Instance) (kept route : List ℕ) (n : ℕ) → is_new p kept n ≡ true → kept_after p kept (n ∷ route) ≡ kept_after p (kept ++ n ∷ []) route
 kept_new p kept route n new = ap (λ b. kept_after p (cond b (kept ++ n ∷ []) kept) route) new
 

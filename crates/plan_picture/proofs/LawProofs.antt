@@ -53,7 +53,7 @@ in_picture a p kept verdict within =
     in_left a (head ++ (map ++ rows ++ days)) (fixed tags.End)
     (in_right a head (map ++ rows ++ days) (in_left a (map ++ rows) days (in_left a map rows within)))
 
--- a stop's mark is that of one of the two layers
+-- the mark of each stop is in one of the two layers
 mark_in_layers : (p : Instance) (f : Frame) (s : Stop) (t : List ℕ) → (is_delivery p s ≡ true → IsIn (upper_mark p f s) t)
     → (is_delivery p s ≡ false → IsIn (lower_mark p f s) t) → IsIn (stop_mark p f s) t
 mark_in_layers p f s t over under = by (is_delivery p s) refl

@@ -17,7 +17,7 @@ use Rattle.plan_picture.specs.declared.tags.Tag.TheVariants as tags
 use Rattle.plan_picture.proofs.KeptLemmas.{kept_new}
 use Rattle.plan_picture.proofs.PartLemmas.{in_left, in_right, in_whole}
 
--- a number that differs from all of a list differs from the item after `kept`
+-- a number that differs from all numbers of a list differs from the one after `kept`
 differs : (x n : ℕ) (kept route : List ℕ) → AllByRecursion (λ y. nat_eq x y ≡ false) (kept ++ n ∷ route) → nat_eq x n ≡ false
 differs x n [] route all = all.0
 differs x n (y ∷ kept) route all = differs x n kept route all.1

@@ -71,7 +71,7 @@ use Rattle.plan_picture.proofs.PieceLemmas.{attribute_goes, value_stays, some_va
 use Rattle.plan_picture.proofs.ReadLemmas.{Goes, goes_on, inside_keeps, plain_signed, Stays, stays_if, stays_with}
 use Rattle.plan_picture.proofs.TableReadLemmas.{days_stay, rows_stay}
 
--- the names of open elements in the picture: only its own
+-- directly within the picture, only the picture's own element `svg` is open
 abbrev picture_names : List (List ℕ)
 picture_names = codes "svg" ∷ []
 

@@ -1,5 +1,5 @@
--- The state of a reader after the pieces of a text. A text without `'`, `<`, `&` and `>` changes no state
--- between tags and none in a value.
+-- The state of a reader after the pieces of a text. A text without `'`, `<`, `&` and `>` leaves the state as it
+-- was, between tags and in a value.
 use Rattle.std.proofs.Common.{◌≡◌, ◌∙◌, ℕ, ◌+◌, ◌/◌, ◌%◌, ◌<◌, ℤ, pos, negsuc, Bool, true, false, not, ◌||◌, List, [], ◌∷◌, ◌++◌, zero, suc, refl, ap, arith}
 use Rattle.std.specs.Prelude.{◌==◌, nat_lt, decimal, if◌then◌else◌}
 use Rattle.std.specs.Fmt.{digit_glyph, digits, digits_onto, signed_decimal}
@@ -53,7 +53,7 @@ pub quoted_keeps : (n : List ℕ) (os : List (List ℕ)) → Keeps (quoted n os)
 quoted_keeps n os [] plain = refl
 quoted_keeps n os (c ∷ t) plain = ap (λ b. read_all (if b then quoted n os else if c == 39 then unquoted n os else malformed) t) plain.0 ∙ quoted_keeps n os t plain.1
 
--- the characters above `/` except `<` and `>`
+-- a character that is none of `'`, `<`, `&` and `>`
 plain_by : (c : ℕ) → (c == 39) ≡ false → (c == 60) ≡ false → (c == 38) ≡ false → (c == 62) ≡ false → is_plain c ≡ true
 plain_by c a b d e =
     ap (λ x. not (x || (c == 60) || (c == 38) || (c == 62))) a

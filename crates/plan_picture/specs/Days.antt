@@ -1,5 +1,5 @@
--- The chart beside the table: when each vehicle drives, waits and serves. The windows of its stops are below,
--- stops and times beside the bars, and an axis with ticks above.
+-- The chart beside the table: when each vehicle drives, waits and serves. A stop's number is above its bars,
+-- its window and the start of its service are below them. An axis with ticks is above the chart.
 use Rattle.std.specs.Prelude.{zero, suc, ℕ, ◌+◌, ◌-◌, ◌*◌, ◌/◌, ◌==◌, nat_le, max, List, [], ◌∷◌, ◌++◌, map, fold, length, if◌then◌else◌}
 use Rattle.std.specs.Int.{div_ceil}
 use Rattle.std.specs.List.{flat_map, range_with_len}
@@ -15,7 +15,7 @@ use Rattle.plan_picture.specs.Tags.{fixed}
 use Rattle.plan_picture.specs.declared.styles.Style.TheVariants as styles
 use Rattle.plan_picture.specs.declared.tags.Tag.TheVariants as tags
 
--- a bar for the window of a stop; the depot's window is the whole width of the chart
+-- a bar for the window of a stop; none for the depot, since the chart begins at its earliest time
 unfoldable pub window_text : Stop → List ℕ
 window_text s =
     if s.number == 0 then [] else bar tags.Window s.earliest (s.latest - s.earliest)
@@ -24,7 +24,7 @@ window_text s =
 unfoldable pub late_text : Visit → List ℕ
 late_text v = bar tags.Late v.stop.latest (v.start - v.stop.latest)
 
--- driving from the departure at the place before, then waiting, then service
+-- three bars: driving from the departure at time `leave`, then waiting, then service
 unfoldable pub work_text : ℕ → Visit → List ℕ
 work_text leave v =
     bar tags.Drive leave v.leg ++ bar tags.Wait (leave + v.leg) (v.start - (leave + v.leg)) ++ bar tags.Serve v.start v.stop.service
@@ -89,7 +89,8 @@ time_text x v = placed_text tags.TimeStop x v.stop.number ++ placed_text tags.Ti
 abbrev pub time_width : Visit → ℕ
 time_width v = 6 * max (digit_count v.start) (digit_count v.stop.number) + 5
 
--- the times of these visits, except those left of the x coordinate `free`, so that none covers another
+-- the times of these visits, except those that would be left of the x coordinate `free`, so that none covers
+-- another
 abbrev pub times_text : ℕ → ℕ → ℕ → List Visit → List ℕ
 times_text first last free [] = []
 times_text first last free (v ∷ visits) =

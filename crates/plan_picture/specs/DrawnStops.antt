@@ -6,7 +6,7 @@ use Rattle.plan_types.specs.declared.requests.Stop.{Stop}
 use Rattle.route_sched.specs.VisitList.{visits_from}
 use Rattle.route_sched.specs.declared.visits.Visit.{Visit}
 
--- a stop or none as a list
+-- an optional stop as a list
 abbrev pub listed : Option Stop → List Stop
 listed None = []
 listed (Some s) = s ∷ []
@@ -24,7 +24,7 @@ stops_in_order p = stops_below p p.next_number
 abbrev pub is_new : Instance → List ℕ → ℕ → Bool
 is_new p kept n = is_some (stop_at p n) && not (list_any (λ m. m == n) kept)
 
--- the stops that were kept so far, and those of the rest that the problem has, each at its first place
+-- the kept stops, followed by the stops of `route` that the problem has, each at its first place
 abbrev pub kept_after : Instance → List ℕ → List ℕ → List ℕ
 kept_after p kept [] = kept
 kept_after p kept (n ∷ route) = kept_after p (if is_new p kept n then kept ++ n ∷ [] else kept) route

@@ -82,7 +82,7 @@ rule_text rule = word_and_number words.BrokenRule (rule_number rule) ++ word wor
 unfoldable pub broken_text : Instance → List (List ℕ) → BrokenRule → List ℕ
 broken_text p routes b = rule_text b.rule ++ broken_place b ++ rule_values b.rule p routes b
 
--- the text for the rule that a verdict names; no rule has another number
+-- the text for the rule that a verdict reports; it is empty if no rule has the reported number
 abbrev pub broken_by : Instance → List (List ℕ) → Option Rule → ℕ → ℕ → ℕ → List ℕ
 broken_by p routes None r i n = []
 broken_by p routes (Some rule) r i n = broken_text p routes (record { rule = rule; route = r; place = i; stop = n })
@@ -98,7 +98,7 @@ title_head (Broken rule r i n) = tags.BrokenTitle
 unfoldable pub title_start : Verdict → List ℕ
 title_start verdict = fixed (title_head verdict) ++ style styles.TitleLetters
 
--- the number of the route and how many there are, if only one is drawn
+-- the number of the route and the number of all routes, if only one route is drawn
 unfoldable pub one_route : ℕ → ℕ → List ℕ
 one_route number all = word_and_number words.OneRoute number ++ word_and_number words.OfRoutes all ++ word words.OfPlan
 
@@ -114,7 +114,7 @@ unfoldable pub unserved_text : ℕ → List ℕ
 unserved_text count =
     if count == 0 then [] else fixed tags.UnservedCount ++ word_and_number words.Unserved count ++ fixed tags.TextEnd
 
--- the meaning of the marks, below them
+-- the words that explain the marks, each beside its mark
 unfoldable pub mark_words : List ℕ
 mark_words =
     tagged tags.PairDepot words.Depot ++ tagged tags.PairPickup words.Pickup ++ tagged tags.PairDelivery words.Delivery ++ tagged tags.PairStop words.Stop
@@ -122,7 +122,7 @@ mark_words =
 unfoldable pub pair_words : List ℕ
 pair_words = mark_words ++ tagged tags.PairLines words.PairLines ++ fixed tags.TextEnd
 
--- the meaning of the bars
+-- the words that explain the bars
 unfoldable pub bar_words : List ℕ
 bar_words =
     tagged tags.BarDriving words.Driving ++ tagged tags.BarWaiting words.Waiting ++ tagged tags.BarService words.Service ++ tagged tags.BarWindow words.Window

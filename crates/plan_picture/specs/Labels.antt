@@ -23,7 +23,7 @@ quarters f k = k * f.unit / 4
 abbrev pub span_around : Frame → ℕ → ℕ → Span
 span_around f k at = record { first = at - quarters f k; last = at + quarters f k }
 
--- the interval a gap before a coordinate, or a gap after it, twice `half` long
+-- the interval that ends a gap before a coordinate, or begins a gap after it, and is twice `half` long
 abbrev pub span_before : Frame → ℕ → ℕ → ℕ → Span
 span_before f gap half at = record { first = at - quarters f (gap + 2 * half); last = at - quarters f gap }
 
@@ -77,14 +77,14 @@ free_area f labels e s =
     else None
 
 -- the extent of a stop's number, and of a route's: half its width, half its height, and its distance from the
--- mark
+-- middle of the mark
 abbrev pub number_extent : ℕ → Extent
 number_extent n = record { across = 5 * digit_count n; down = 8; gap = 12 }
 
 abbrev pub badge_extent : ℕ → Extent
 badge_extent n = record { across = 8 * digit_count n + 6; down = 12; gap = 14 }
 
--- the labels with one more, if it found an area
+-- the labels with one more label, if an area was found for it
 abbrev pub with_label : List Label → LabelKind → ℕ → Option Area → List Label
 with_label labels kind n None = labels
 with_label labels kind n (Some a) = labels ++ record { kind = kind; number = n; area = a } ∷ []
@@ -102,7 +102,7 @@ abbrev pub free_along : Frame → List Label → Extent → List Stop → Option
 free_along f labels e [] = None
 free_along f labels e (s ∷ stops) = option_or (free_area f labels e s) (free_along f labels e stops)
 
--- the area for the number of a route: at a stop from its middle on, else at an earlier stop
+-- the area for the number of a route: at a stop from the middle of the route on, otherwise at an earlier stop
 abbrev pub badge_area : Frame → List Label → ℕ → List Stop → Option Area
 badge_area f labels n stops =
     option_or (free_along f labels (badge_extent n) (drop (length stops / 2) stops)) (free_along f labels (badge_extent n) (take (length stops / 2) stops))

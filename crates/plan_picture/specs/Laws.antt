@@ -29,7 +29,7 @@ stop_mark p f s = mark_text (if is_delivery p s then tags.DeliveryMark else lowe
 abbrev pub StopsAreMarked : Type 0
 StopsAreMarked = (p : Instance) (routes : List (List ℕ)) (verdict : Verdict) (n : ℕ) (s : Stop) → IsInstance p → stop_at p n ≡ Some s → IsIn (stop_mark p (frame_of p) s) (picture p routes verdict)
 
--- law: each route has its line, through the part of it that is drawn
+-- law: each route has its line, which goes through the part of the route that is drawn
 abbrev pub RoutesAreDrawn : Type 0
 RoutesAreDrawn = (p : Instance) (routes : List (List ℕ)) (verdict : Verdict) (r : ℕ) (route : List ℕ) → slice_get routes r ≡ Some route
     → IsIn (line_text p (frame_of p) (broken_route verdict) (r + 1) (kept_of p route)) (picture p routes verdict)

@@ -36,7 +36,7 @@ pairs_text p f stops = fixed tags.Pairs ++ flat_map (pair_text p f stops) stops 
 unfoldable pub has_arrow : Frame → Point → Point → Bool
 has_arrow f a b = nat_le (14 * f.unit) (max (absolute_difference a.x b.x) (absolute_difference a.y b.y))
 
--- the point of a leg's arrow
+-- the point of a leg's arrow, if the leg is long enough
 abbrev pub arrow_text : Frame → Point → Point → List ℕ
 arrow_text f a b = if has_arrow f a b then at_text (arrow_point a b) else []
 
@@ -44,7 +44,7 @@ arrow_text f a b = if has_arrow f a b then at_text (arrow_point a b) else []
 abbrev pub leg_head : Stop → Stop → Tag
 leg_head a b = if (a.number == 0) || (b.number == 0) then tags.DepotLeg else tags.Leg
 
--- a leg from one stop to the next: the arrow is at the point between its ends
+-- a leg from one stop to the next: the points of both stops, and the arrow's point between them
 unfoldable pub leg_text : Frame → Stop → Stop → List ℕ
 leg_text f a b =
     fixed (leg_head a b) ++ at_text (point_of f a) ++ arrow_text f (point_of f a) (point_of f b) ++ (at_text (point_of f b) ++ fixed tags.LineEnd)
@@ -54,7 +54,7 @@ abbrev pub legs_text : Frame → Stop → List Visit → List ℕ
 legs_text f last [] = []
 legs_text f last (v ∷ visits) = leg_text f last v.stop ++ legs_text f v.stop visits
 
--- the beginning of a route's group: whether it is the broken one, and its colour
+-- the beginning of a route's group: a class if the route is the broken one, and its colour
 unfoldable pub line_head : ℕ → ℕ → List ℕ
 line_head broken number = fixed tags.Route ++ broken_class broken number ++ colour tags.Stroke number ++ fixed tags.Open
 

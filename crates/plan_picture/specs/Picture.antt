@@ -43,7 +43,7 @@ unfoldable pub route_text : Instance → List (List ℕ) → Verdict → ℕ →
 route_text p routes verdict number route =
     sized_head p 1 ++ title_text p routes verdict number ++ map_and_table_text p (stops_along p route) number (route ∷ []) verdict
 
--- the picture of any routes: of each route, the part that is drawn
+-- the picture of any routes, each reduced to the part that is drawn
 abbrev pub picture : Instance → List (List ℕ) → Verdict → List ℕ
 picture p routes verdict = whole_text p (map (kept_of p) routes) verdict ++ fixed tags.End
 

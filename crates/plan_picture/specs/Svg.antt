@@ -58,7 +58,7 @@ bar t first width =
 unfoldable pub broken_class : ℕ → ℕ → List ℕ
 broken_class broken number = if number == broken then fixed tags.BrokenClass else []
 
--- a text for each route, in order; the first has this number
+-- a text for each route, in order; the first route has this number
 abbrev pub each : (ℕ → List ℕ → List ℕ) → ℕ → List (List ℕ) → List ℕ
 each f number [] = []
 each f number (route ∷ routes) = f number route ++ each f (number + 1) routes

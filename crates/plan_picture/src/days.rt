@@ -223,7 +223,7 @@ impl Svg {
         self.put_bar(Tag::Serve, start, service);
     }
 
-    // Appends the window of a stop; the depot's window is the whole width of the chart.
+    // Appends the window of a stop. The depot's window has no bar, since the chart begins at its earliest time.
     #[tactic(auto, unfolding(crate::specs::Days::window_text))]
     fn put_window(&mut self, stop: &Stop)
         ensures { self.new ≡ self.old ++ window_text stop.now }

@@ -36,8 +36,8 @@ pub fn draw(
     svg.into_vec()
 }
 
-/// Returns the picture of a single route, larger: its stops fill the map. Routes count from 1. Returns `None`
-/// if there is no route with this number.
+/// Returns the picture of a single route. It is larger, since only the stops of this route fill the map. Routes
+/// count from 1. Returns `None` if there is no route with this number.
 pub fn draw_route(
     alloc: Global,
     problem: &Problem,

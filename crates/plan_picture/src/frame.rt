@@ -24,7 +24,7 @@ pub(crate) struct Bounds {
     pub top: i32,
 }
 
-/// The mapping from coordinates to points: the corner from which they count, and the factor.
+/// The mapping from coordinates to points: the corner from which coordinates count, and the scale.
 #[derive(Clone, Copy)]
 pub(crate) struct Frame {
     pub left: i32,
@@ -161,7 +161,7 @@ pub(crate) fn absolute_difference(m: u128, n: u128) -> u128
 }
 
 impl Point {
-    /// Returns the point at three fifths of the line to another one.
+    /// Returns the point at three fifths of the line to `end`.
     pub(crate) fn arrow_point(&self, end: &Point) -> Point
         requires near { self.now.x ≤ 2 ^ 70 }
         requires high { self.now.y ≤ 2 ^ 70 }

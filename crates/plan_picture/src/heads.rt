@@ -142,7 +142,7 @@ impl Svg {
         self.put(Tag::TextEnd);
     }
 
-    /// Appends the verdict, and the number of the route that is drawn, 0 for all.
+    /// Appends the verdict, after the number of the drawn route. `number` is 0 if all routes are drawn.
     #[tactic(auto, unfolding(crate::specs::Heads::title_text))]
     pub(crate) fn put_title(
         &mut self,

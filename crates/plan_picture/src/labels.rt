@@ -1,7 +1,7 @@
 //! The positions of the numbers of routes and stops, so that none covers a mark or another number.
 //!
-//! The numbers of routes are placed first, then those of stops in ascending order. Each is placed above its
-//! mark, to the right, below or to the left, at the first free position.
+//! The numbers of routes are placed first, then those of stops in ascending order. Each takes the first free
+//! position of four: above a mark, to its right, below it, or to its left.
 ghost use Rattle.std.specs.Prelude.{◌≡◌, ◌≤◌, ◌^◌, [], IfOk, OnOk, Some};
 ghost use Rattle.plan_picture.specs.Labels.{area_of, area_on, span_around, badge_area, badge_extent, span_before, span_after, covers, free_along, free_area, is_free, is_within, labels_of, mark_labels, with_label, number_extent, overlaps, quarters, with_badges, with_marks, with_numbers};
 
@@ -184,7 +184,7 @@ impl Area {
             && other.top < self.bottom
     }
 
-    // Returns whether the area covers something that was placed before.
+    // Returns whether the area overlaps a mark or a number that was placed before.
     fn covers(&self, labels: &[Label]) -> bool
         ensures { result ≡ covers self.now labels.now }
     {
@@ -309,7 +309,8 @@ impl Frame {
         None
     }
 
-    // Returns the area for the number of a route: at a stop from its middle on, else at an earlier stop.
+    // Returns the area for the number of a route: at a stop from the middle of the route on, otherwise at an
+    // earlier stop.
     fn badge_area(&self, labels: &[Label], number: u64, stops: &[Stop]) -> Option<Area>
         ensures { result ≡ badge_area self.now labels.now number stops.now }
     {

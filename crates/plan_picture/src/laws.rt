@@ -1,4 +1,4 @@
-//! Laws on the contents of every picture, and that it is well-formed.
+//! Laws: what every picture contains, and that it is well-formed.
 ghost use Rattle.plan_picture.specs.Laws.{LegsAreDrawn, PicturesAreWellFormed, RoutePicturesAreWellFormed, RoutesAreDrawn, RoutesAreKept, StopsAreMarked};
 
 use plan_types::numbers_are_below_next_number;
@@ -10,8 +10,8 @@ pub fn stops_are_marked()
     numbers_are_below_next_number();
 }
 
-/// States that each route has its line, with each of its legs. If its stops are known and distinct, none is
-/// left out.
+/// States that each route has its line, with each of its legs. If the stops of a route are known and distinct,
+/// none of them is left out.
 pub fn legs_are_drawn()
     ensures routes { RoutesAreDrawn }
     ensures kept { RoutesAreKept }

@@ -12,7 +12,7 @@ pub(crate) struct Highlight {
     pub stop: u32,
 }
 
-/// A problem, stops, and routes, the first of which has the number `first`; and the violation.
+/// A problem with the stops and routes to draw, and the violation. The first route has the number `first`.
 #[derive(Drop)]
 pub(crate) struct Scene<'a> {
     pub problem: &'a Problem,

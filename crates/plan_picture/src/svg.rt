@@ -20,7 +20,7 @@ use std::alloc::Global;
 use std::marker::Model;
 use text_buffer::TextBuffer;
 
-/// The text so far. Once memory runs out, nothing more is kept, and `into_vec` returns the error.
+/// The text so far. Once memory runs out, nothing more is appended, and `into_vec` returns the error.
 #[derive(Drop)]
 pub(crate) struct Svg {
     text: TextBuffer,

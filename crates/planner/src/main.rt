@@ -27,7 +27,7 @@ use std::rt::Files;
 const LAST_STANDARD_FD: RawFd = 2;
 
 fn main(rt: HostRuntime) -> ExitCode {
-    // Stays open until the end.
+    // These files stay open until the program ends.
     let _stand_ins = match reserve_standard_fds(&rt) {
         Ok(reserve_standard_fds) => reserve_standard_fds,
         Err(error) => return ExitCode::from(open_failure_status(error.kind())),
@@ -65,8 +65,8 @@ fn status_of(rt: &HostRuntime, words: &[String]) -> u8 {
     status
 }
 
-// Opens one file for each standard stream that is closed. It is the folder `/`, which can be opened on every
-// system and can be neither written nor read.
+// Opens the folder `/` once for each standard stream that is closed. It can be opened on every system, and can
+// be neither written nor read.
 fn reserve_standard_fds<R: Files<File = File> + AllocGlobal>(rt: &R) -> io::Result<Vec<File>> {
     let mut held = Vec::new(rt.alloc());
     for _ in 0..=LAST_STANDARD_FD {

@@ -1,5 +1,5 @@
--- A route exceeds no limit exactly if it keeps them, and then a request alone is feasible by the auditor's
--- rules.
+-- A route exceeds no limit exactly if `KeepsLimits` holds for it. The route of a vehicle that serves only one
+-- request is then feasible alone by the auditor's rules.
 use Rattle.std.proofs.Common.{◌≡◌, ◌∙◌, ℕ, zero, suc, ◌+◌, ◌-◌, ◌<◌, ◌≤◌, ◌≤ℤ◌, ◌<ℤ◌, ℤ, pos, int_lt, ltb, Bool, true, false}
 use Rattle.std.proofs.Common.{T, List, [], map, length, get_or, slice_get, Option, Some, None, refl, sym, ap, subst, arith, inl, inr, nat_eq}
 use Rattle.std.specs.List.{find, range_with_len}

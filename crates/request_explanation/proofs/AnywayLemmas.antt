@@ -1,6 +1,6 @@
--- A late pickup, or one that makes the vehicle late by more than 1 after it, causes a violation wherever the
--- delivery is inserted later. If a trial with this pickup is no shorter than the best trial, and the best trial
--- violates no more, the best trial stays.
+-- A pickup that is late, or after which the vehicle is late by more than 1, causes a violation wherever the
+-- delivery is inserted after it. If a trial with this pickup is no shorter than the best trial, and violates at
+-- least as much, the best trial stays.
 use Rattle.std.proofs.Common.{◌≡◌, ◌∙◌, ℕ, zero, suc, inl, inr, Bool, true, ◌||◌, ◌+◌, ◌-◌, ◌<◌, ◌≤◌, min, List, []}
 use Rattle.std.proofs.Common.{map, take, length, get_or, Some, false, refl, sym, ap, subst, arith}
 use Rattle.std.specs.List.{insert, list_any, range_with_len}
@@ -49,7 +49,7 @@ missed_at p route x kind late =
     let here : is_late (row_after p route (x - 1)) ≡ true = lt-ltb _ _ (subst (λ j. (place p route j).latest < start p route j) (sym at) late.late) in
     late_missed p [] (rows_of p route) kind (any_at is_late (row_after p route) 0 (length route + 1) (x - 1) (omega arith) (omega (arith, late.from, late.to)) here)
 
--- ---- a stop after the first `at` stops, and another one after the first m of the route with it
+-- ---- a stop after the first `at` stops, and a second one after the first m stops of the route with the first
 module _ (p : Instance) (route : List ℕ) (first second at m : ℕ) (one : 1 ≤ at) (within : at ≤ length route) (later : at < m)
     (most : m ≤ length route + 1) (saves : DetoursSaveAtMostOne) where
   abbrev pickup : Stop
@@ -76,7 +76,7 @@ module _ (p : Instance) (route : List ℕ) (first second at m : ℕ) (one : 1 �
   before : (k : ℕ) → k ≤ m → place p both k ≡ place p picked k
   before k h = place_before p picked second m delivery (omega (arith, later)) fits refl k h
 
-  -- the places of the route after the pickup: before the delivery and after it
+  -- the places of the route after the pickup: those before the delivery, and those after it
   near : (i : ℕ) → at ≤ i → i + 1 + 1 ≤ m → place p both (i + 1 + 1) ≡ place p route (i + 1)
   near i from to = before (i + 1 + 1) to ∙ place_following p route first at pickup one within refl i from
 
@@ -233,7 +233,7 @@ module _ (p : Instance) (t : Tour) (place : ℕ) (within : place ≤ length t.ro
       let same : trial_at p t.route.now (Pair a b) (place, j) ≡ beside (j - 1) = sym (trial_with p t.route.now a b with_pickup place j (omega (arith, first)) refl) in
       ap (λ t. is_better t best) same ∙ not_better (beside (j - 1)) best (worse (j - 1) (omega (arith, first)) (omega (arith, last))))
 
-  -- each trial violates at least what was found up to the pickup
+  -- each trial violates at least as much as the rows up to the pickup
   least_beside : (found : FirstViolations) (later : ℕ) → found ≡ violations_in p (take (place - 1 + 1) (rows_of p with_pickup)) → place - 1 < later → later ≤ length t.route.now + 1 →
       violates_less (beside later).violation (least_of found) ≡ false
   least_beside found later is first last =

@@ -11,16 +11,16 @@ use Rattle.request_explanation.specs.Trials.{best_from, better, is_better, trial
 use Rattle.request_explanation.specs.declared.limit_violations.LimitViolation.{LimitViolation}
 use Rattle.request_explanation.specs.declared.trials.Trial.{Trial}
 
--- ---- a kind, an excess and a distance each
--- the tests: one violates less than another, and one is better
+-- ---- two trials by their kinds, excesses and distances
+-- the tests: the first trial violates less, and the first trial is better
 abbrev pub less : Bool → ℕ → Bool → ℕ → Bool
 less x e y f = if x then y && ltb e f else (y || ltb e f)
 
 abbrev before : Bool → ℕ → ℕ → Bool → ℕ → ℕ → Bool
 before x e d y f g = less x e y f || (not (less y f x e) && ltb d g)
 
--- the meaning of the tests: an overload comes after everything that is not one, and within a kind the numbers
--- decide
+-- the meaning of the tests: an overload is greater than everything that is not an overload, and within a kind
+-- the numbers decide
 abbrev pub ByKind : Bool → Bool → Type 0 → Type 0
 ByKind false false R = R
 ByKind false true R = ⊤
@@ -48,7 +48,7 @@ no_higher e d f g h most = elim (leb_tells (suc f) e) [
   ]
 ]
 
--- the one that violates less is better, whatever the distances are
+-- a trial that violates less is better, whatever the distances are
 by_less : (x : Bool) (e d : ℕ) (y : Bool) (f g : ℕ) → less x e y f ≡ true → AtMost x e d y f g
 by_less false e d false f g h = lower e d f g h
 by_less false e d true f g h = tt
@@ -160,8 +160,9 @@ no_worse_both : (t u v : Trial) → no_worse t u → no_worse u v → no_worse t
 no_worse_both t u v =
     joined (is_overload t.violation) (excess_of t.violation) t.distance (is_overload u.violation) (excess_of u.violation) u.distance (is_overload v.violation) (excess_of v.violation) v.distance
 
--- A trial is no worse than another if it violates less than `least` and the other does not; or if it violates
--- no more than `least`, the other no less, and its distance is no longer.
+-- Trial `t` is no worse than trial `u` if `t` violates less than `least` and `u` does not. It is also no worse
+-- if `t` violates no more than `least`, `u` violates no less than `least`, and the distance of `t` is no
+-- greater.
 pub by_miss : (t u : Trial) (least : Option LimitViolation) → violates_less t.violation least ≡ true → violates_less u.violation least ≡ false → no_worse t u
 by_miss t u least less_is more =
     joined (is_overload t.violation) (excess_of t.violation) t.distance (is_overload least) (excess_of least) u.distance (is_overload u.violation) (excess_of u.violation) u.distance
@@ -196,7 +197,7 @@ best_stays best t most = kept (not_better t best most)
     kept : is_better t best ≡ false → better (Some best) t ≡ Some best
     kept fails = rw fails refl
 
--- The best of a trial and a list is no worse than each of them.
+-- The best of a first trial and a list is no worse than each of these trials.
 best_is : (best last : Trial) (ts : List Trial) → best_from (Some best) ts ≡ Some last → no_worse last best × AllByRecursion (λ t. is_better t last ≡ false) ts
 best_is best last [] e = let same : best ≡ last = some_same best last e in (same_worse best last same, tt)
   where

@@ -1,4 +1,5 @@
--- The violation of a request alone is the auditor's fault of its route: the rule, and the stop.
+-- The violation of a vehicle that serves only one request has the rule and the stop of the fault that the
+-- auditor finds in its route.
 use Rattle.std.proofs.Common.{◌≡◌, ◌∙◌, ◌⊎◌, ℕ, zero, suc, ◌+◌, ◌<◌, ◌≤◌, ◌<ℤ◌, pos, int_lt, Bool, true, false, T, List, []}
 use Rattle.std.proofs.Common.{◌∷◌, map, length, slice_get, Option, Some, None, is_some, refl, sym, ap, subst, arith, inl, inr, nat_eq, add-one}
 use Rattle.std.specs.List.{find, range_with_len}
@@ -98,7 +99,7 @@ module _ (p : Instance) (route : List ℕ) (valid : IsInstance p) (once : AreDis
   no_delivered : is_some (first_place_fault (early_delivery_at p (route ∷ [])) 0 route) ≡ false
   no_delivered = is_not (is_some (first_place_fault (early_delivery_at p (route ∷ [])) 0 route)) (λ is. let b = delivered_fault p route once _ refl no_missing _ refl is in first b.0 b.1 b.2 b.3.broken)
 
-  -- The stop of the place after place k. A fault at that place is the verdict.
+  -- The stop at the place after place k. If the auditor finds a fault there, that fault is its verdict.
   abbrev next_stop : ℕ → ℕ
   next_stop k = (place p route (k + 1)).number
 

@@ -1,4 +1,4 @@
--- A route with one stop more: its places, starts, loads and length, and the rows that have them.
+-- A route with one more stop: its places, starts, loads and length, and the rows that have them.
 use Rattle.std.proofs.Common.{◌≡◌, ◌∙◌, ℕ, zero, suc, Bool, true, false, inl, inr, ◌+◌, ◌-◌, ◌<◌, ◌≤◌, max, ℤ, pos, ◌+ℤ◌}
 use Rattle.std.proofs.Common.{List, [], ◌∷◌, ◌++◌, map, take, drop, length, get_or, Option, Some, None, refl, sym, ap, subst, arith, add-one}
 use Rattle.std.specs.List.{find, insert, range_with_len}
@@ -47,7 +47,7 @@ map_range_same f g a (suc n) same =
     ap (λ x. x ∷ map f (range_with_len (a + 1) n)) (same a (omega arith) (omega arith))
     ∙ ap (λ l. g a ∷ l) (map_range_same f g (a + 1) n (λ k from to. same k (omega arith) (omega arith)))
 
--- ---- what is found in two parts
+-- ---- what is found in two lists, one after the other
 map_or : {X Y : Type 0} (f : X → Y) (a b : Option X) → option_map f (option_or a b) ≡ option_or (option_map f a) (option_map f b)
 map_or f None b = refl
 map_or f (Some x) b = refl
@@ -65,7 +65,8 @@ same_found a b c d e f = rw (e, f) refl
 pub found_both : (p : Instance) (xs ys : List Row) → violations_in p (xs ++ ys) ≡ violations_then (violations_in p xs) (violations_in p ys)
 found_both p xs ys = same_found _ _ _ _ (over_both p.capacity xs ys) (late_both p.kind xs ys)
 
--- the first items of two lists that agree on the test
+-- two lists have the same first item that passes a test, if the test agrees on their heads and the claim holds
+-- for their tails
 first_cons : {X Y : Type 0} (test : X → Bool) (f : X → Y) (x y : X) (xs ys : List X) → test x ≡ test y → f x ≡ f y →
     option_map f (find test xs) ≡ option_map f (find test ys) → option_map f (find test (x ∷ xs)) ≡ option_map f (find test (y ∷ ys))
 first_cons test f x y xs ys same reported rest = elim (cases_Bool (test y)) [
@@ -89,7 +90,7 @@ late_moved LiLim now before change other (r ∷ rows) =
     (moved_from (max (now + (r.arrival - before)) r.earliest) r.start change rows) (moved_from (max (now + (r.arrival - before)) r.earliest) r.start other rows) refl refl
     (late_moved LiLim (max (now + (r.arrival - before)) r.earliest) r.start change other rows)
 
--- the violations of rows, one more row and the delayed rows after it
+-- the violations in rows that are followed by one more row, and then by delayed rows
 miss_joined : (p : Instance) (front : List Row) (row : Row) (now before : ℕ) (change : ℤ) (rows : List Row) →
     violation_after p (violations_then (violations_in p front) (violations_in p (row ∷ []))) now before change rows ≡ violation_in p
     (front ++ (row ∷ moved_from now before change rows))
@@ -336,7 +337,7 @@ module _ (p : Instance) (t : Tour) (at : ℕ) (tour : IsTour p t) (one : 1 ≤ a
       ∙ ap (violation_in p) (rows_reported d e row comes row_is comes_is)
 
 -- ---- from place to place
--- rows that stay within the capacity still do without the first ones
+-- if no row is above the capacity, the same holds without the first rows
 light_drop : (capacity : ℕ) (change : ℤ) (rows : List Row) (k : ℕ) → overload_in capacity (with_load_change change rows) ≡ None → overload_in capacity (with_load_change change (drop k rows)) ≡ None
 light_drop capacity change rows zero light = light
 light_drop capacity change [] (suc k) light = refl
@@ -359,7 +360,7 @@ found_more p rows k d below = sym (ap (violations_in p) (take_more rows k d belo
 pub take_last : (xs : List ℕ) (n m y : ℕ) → n ≡ length xs → m ≡ length xs → take n (insert xs m y) ≡ xs
 take_last xs n m y is at = ap (λ k. take k (insert xs m y)) is ∙ ap (λ k. take (length xs) (insert xs k y)) at ∙ ap (take (length xs)) (insert_end xs y) ∙ take-append_seam xs (y ∷ [])
 
--- A route with two stops at its end keeps known and distinct stops without them.
+-- If the stops of a route are known and distinct, they still are after the two stops at its end are removed.
 pub live_without : (p : Instance) (route : List ℕ) (a b i j : ℕ) → i ≡ length route → j ≡ length route + 1 → AreDistinctStops p (insert (insert route i a) j b) → AreDistinctStops p route
 live_without p route a b i j one two once =
     let longer : length (insert route i a) ≡ length route + 1 = length-insert route i a (omega arith) in

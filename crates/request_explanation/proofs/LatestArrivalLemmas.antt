@@ -1,4 +1,4 @@
--- A vehicle that arrives too late somewhere has a violation of at least 1.
+-- If a vehicle arrives anywhere later than the latest arrival, its route has a violation of at least 1.
 use Rattle.std.proofs.Common.{◌≡◌, ◌∙◌, ℕ, ◌⊎◌, inl, inr, true, ◌+◌, ◌-◌, ◌<◌, ◌≤◌, ◌||◌, max, min, ℤ, pos, negsuc}
 use Rattle.std.proofs.Common.{List, [], ◌∷◌, ◌++◌, length, drop, get_or, Option, Some, None, not, refl, sym, take, ap, subst, arith}
 use Rattle.std.specs.Prelude.{int_lt, unsigned_abs, ◌==◌}

@@ -1,4 +1,4 @@
--- The least violation of a route that begins with rows that violate something.
+-- A route that begins with rows that violate something violates at least as much.
 use Rattle.std.proofs.Common.{◌≡◌, ◌∙◌, ℕ, ◌≤◌, ◌⊎◌, inl, inr, true, false, ◌==◌, List, [], ◌∷◌, ◌++◌, take, drop, length, Option, Some, None, refl, sym, ap}
 use Rattle.std.specs.List.{insert}
 use Rattle.std.specs.Option.{option_or}
@@ -17,7 +17,7 @@ use Rattle.request_explanation.specs.declared.limit_violations.LimitViolation.{L
 use Rattle.request_explanation.proofs.BestLemmas.{no_less, not_less_than_none}
 use Rattle.request_explanation.proofs.InsertionLemmas.{late_both, over_both, rows_kept}
 
--- An overload in rows is of the kind overload; a lateness is not.
+-- A violation that `overload_in` finds is an overload; a violation that `lateness_in` finds is not.
 over_is : (capacity : ℕ) (rows : List Row) → (overload_in capacity rows ≡ None) ⊎ (is_overload (overload_in capacity rows) ≡ true)
 over_is capacity [] = inl refl
 over_is capacity (r ∷ rows) = elim (cases_Bool (is_heavy capacity r)) [
@@ -39,7 +39,7 @@ late_is LiLim (r ∷ rows) = elim (cases_Bool (is_late r)) [
   | inr fine ↦ rw fine (late_is LiLim rows)
 ]
 
--- the loads and the times of a prefix and of the rest
+-- a and b are the overloads of a prefix and of the remaining rows, l and k their latenesses
 joined : (a b l k : Option LimitViolation) → (b ≡ None) ⊎ (is_overload b ≡ true) → is_overload l ≡ false → violates_less (option_or (option_or a b) (option_or l k)) (option_or a l) ≡ false
 joined (Some m) b l k over late = no_less (is_overload (Some m)) (excess_of (Some m))
 joined None None None k over late = not_less_than_none (is_overload k) (excess_of k)

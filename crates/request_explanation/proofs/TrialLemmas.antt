@@ -1,4 +1,4 @@
--- Trials place by place.
+-- The list of trials, one place after another.
 use Rattle.std.proofs.Common.{◌≡◌, ◌∙◌, ℕ, suc, ◌+◌, ◌-◌, ◌<◌, List, [], ◌∷◌, ◌++◌, map, length, ◌≤◌, zero, Bool, true, false, take, subst, Option, Some, None, refl, sym, ap, arith}
 use Rattle.std.specs.List.{flat_map, insert, range_with_len}
 use Rattle.plan_types.specs.Instance.{Instance}
@@ -50,7 +50,7 @@ module _ (p : Instance) (route : List ℕ) where
   single_next s best place below = ap (λ l. best_from best (map (trial_at p route (Single s)) (map (λ i. (i, i)) l))) (up_more place (length route + 2) below)
 
   module _ (a b : Stop) where
-    -- the trials of a pair with the pickup at a place, the delivery from this place on
+    -- the trials of a pair with the pickup at one place, and the delivery from this place on
     abbrev pub deliveries : ℕ → ℕ → List Trial
     deliveries i following = map (trial_at p route (Pair a b)) (map (λ j. (i, j)) (up_to following (length route + 3)))
 
@@ -70,7 +70,7 @@ module _ (p : Instance) (route : List ℕ) where
         let same : following - 1 + 1 ≡ following = omega arith in
         ap (λ r. trial_of p (insert r (following - 1) b.number) i (following - 1 + 1)) is ∙ ap (trial_of p (inserted (Pair a b) i following route) i) same
 
-    -- if none of these n trials is better than the best trial so far, that one stays
+    -- if none of these n trials is better than the best trial so far, the best trial stays
     pub none_better : (best : Trial) (i following n : ℕ) → ((j : ℕ) → following ≤ j → j < following + n → is_better (trial_at p route (Pair a b) (i, j)) best ≡ false) →
         best_from (Some best) (map (trial_at p route (Pair a b)) (map (λ j. (i, j)) (range_with_len following n))) ≡ Some best
     none_better best i following zero worse = refl
@@ -83,8 +83,8 @@ module _ (p : Instance) (route : List ℕ) where
             better (Some best) (trial_at p route (Pair a b) (i, following)) ≡ Some best
         kept t is fails = rw fails refl
 
-    -- the best trial so far violates less than what was found in the first rows, so it stays the best wherever
-    -- the delivery is inserted after them
+    -- if the best trial so far violates less than the first rows do, it stays the best wherever the delivery is
+    -- inserted after these rows
     pub settled : (tour : Tour) (front : FirstViolations) (best all : Option Trial) (i following : ℕ) → tour.rows.now ≡ rows_of p tour.route.now →
         tour.route.now ≡ inserted (Single a) i i route → front ≡ violations_in p (take (following - 1) tour.rows.now) →
         2 ≤ following → length tour.route.now ≡ length route + 1 → is_settled front best ≡ true → best_from best (deliveries i following) ≡ all → best ≡ all

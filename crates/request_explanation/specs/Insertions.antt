@@ -1,5 +1,5 @@
--- One more stop in a route whose rows are known: the rows before it stay, it gets a row of its own, and later
--- rows are delayed.
+-- One more stop in a route whose rows are known: the rows before the stop stay, the stop gets a row of its own,
+-- and later rows are delayed.
 use Rattle.std.specs.Prelude.{◌≡◌, ◌⊎◌, ℕ, ◌+◌, ◌-◌, ◌<◌, max, ℤ, pos, ◌+ℤ◌, List, map, length, drop, slice_index_or, Option, None, Some, Bool, false, true}
 use Rattle.std.specs.List.{insert}
 use Rattle.std.specs.Option.{option_or}
@@ -24,11 +24,11 @@ use Rattle.request_explanation.specs.declared.trials.Trial.{Trial}
 abbrev pub violations_in : Instance → List Row → FirstViolations
 violations_in p rows = record { over = overload_in p.capacity rows; late = lateness_in p.kind rows }
 
--- the first violations of some rows followed by others
+-- the first violations of some rows that are followed by other rows
 abbrev pub violations_then : FirstViolations → FirstViolations → FirstViolations
 violations_then f g = record { over = option_or f.over g.over; late = option_or f.late g.late }
 
--- the row of a stop that follows this row, after this service and leg
+-- the row of a stop that follows the row `here`, after this service and travel time
 abbrev pub inserted_row : Row → ℕ → ℕ → Stop → Row
 inserted_row here service travel s = record {
   place = here.place + 1;
@@ -40,12 +40,12 @@ inserted_row here service travel s = record {
   load = here.load +ℤ s.demand;
 }
 
--- the arrival at the stop after one that is inserted after this row
+-- the arrival at the next stop, if the stop of the tour is inserted after the row `here`
 abbrev pub arrival_with : Tour → Detour → Row → ℕ
 arrival_with tour detour here = (inserted_row here detour.service detour.to tour.stop.now).start + tour.stop.now.service + detour.from
 
--- The inserted stop is late, or the vehicle arrives at the next stop so late that one more stop in between
--- doesn't help, though a detour over it may save 1.
+-- The inserted stop is late, or the vehicle arrives at the next stop too late by more than 1. One more stop in
+-- between can't prevent a violation then, since a detour saves at most 1.
 abbrev pub IsLateAnyway : Tour → Detour → ℕ → Row → Type 0
 IsLateAnyway tour detour at here =
     (is_late (inserted_row here detour.service detour.to tour.stop.now) ≡ true) ⊎ (slice_index_or tour.latest_arrivals.now at 0 + 1 < arrival_with tour detour here)
@@ -54,12 +54,12 @@ IsLateAnyway tour detour at here =
 abbrev pub with_load_change : ℤ → List Row → List Row
 with_load_change change rows = map (λ (r : Row). record r { load = r.load +ℤ change }) rows
 
--- the first violation, if `found` was found before these rows
+-- the first violation, if `found` has the first violations of the rows before these
 abbrev pub violation_after : Instance → FirstViolations → ℕ → ℕ → ℤ → List Row → Option LimitViolation
 violation_after p found now before change rows =
     option_or (option_or found.over (overload_in p.capacity (with_load_change change rows))) (option_or found.late (lateness_in p.kind (moved_from now before (pos 0) rows)))
 
--- the values of a route, and a stop that may be inserted
+-- the tour has the values of its route, and a stop that may be inserted
 pub record IsTour (p : Instance) (tour : Tour) : Type 0 where
   pub once : AreDistinctStops p tour.route.now
   pub rows : tour.rows.now ≡ rows_of p tour.route.now
@@ -83,23 +83,23 @@ IsNumberOf p tour number = stop_numbered p number ≡ tour.stop.now
 abbrev pub route_with : Tour → ℕ → ℕ → List ℕ
 route_with tour at number = insert tour.route.now at number
 
--- the values of a route without a stop that may be inserted
+-- `base` has the values of this route, and the stop `s`, which may be inserted
 pub record IsBase (p : Instance) (route : List ℕ) (s : Stop) (base : Tour) : Type 0 where
   pub tour : IsTour p base
   pub same : base.route.now ≡ route
   pub number : IsNumberOf p base s.number
 
--- the route with the pickup at this place
+-- `picked` is the route with the stop of `base`, the pickup, inserted at this place
 pub record HasPickupAt (p : Instance) (base : Tour) (place : ℕ) (picked : List ℕ) : Type 0 where
   pub number : ℕ
   pub is : IsNumberOf p base number
   pub put : picked ≡ route_with base (place - 1) number
 
--- the loads after the first `at` stops stay within the capacity with the stop on board
+-- no load after the first `at` stops exceeds the capacity with the demand of the tour's stop added
 abbrev pub FitsCapacity : Instance → Tour → ℕ → Type 0
 FitsCapacity p tour at = overload_in p.capacity (with_load_change tour.stop.now.demand (drop at tour.rows.now)) ≡ None
 
--- the least violation of a route that begins with these rows
+-- the least violation that a route can have if it begins with the rows in which `f` was found
 abbrev pub least_of : FirstViolations → Option LimitViolation
 least_of f = option_or f.over f.late
 

@@ -5,7 +5,7 @@ use Rattle.plan_explain.specs.declared.rows.Row.{Row}
 use Rattle.request_explanation.specs.LimitViolations.{is_late}
 use Rattle.request_explanation.specs.MovedRows.{moved_from}
 
--- the rows if the vehicle arrives at the first of them at this time, with another load
+-- the rows if the vehicle arrives at the first of them at the time `arrival`, and each load changes by `change`
 abbrev pub rows_from : ℕ → ℤ → List Row → List Row
 rows_from arrival change [] = []
 rows_from arrival change (r ∷ rows) = moved_from arrival r.arrival change (r ∷ rows)
@@ -14,8 +14,9 @@ rows_from arrival change (r ∷ rows) = moved_from arrival r.arrival change (r �
 abbrev pub IsLatestArrival : List Row → ℕ → ℕ → Type 0
 IsLatestArrival rows k latest = (arrival : ℕ) (change : ℤ) → latest < arrival → list_any is_late (rows_from arrival change (drop k rows)) ≡ true
 
--- The latest arrival at a row is at least the row's own limit, or at least that of the next row less the travel
--- time. So a vehicle that is late by some time is late by it at that row or the next.
+-- `latest` is at least the smaller of the row's own limit, and the latest arrival at the next row less the time
+-- from this row's start to that arrival. So if a vehicle arrives later than `latest` by some time, it is late
+-- by at least as much at this row, or arrives at least as much too late at the next.
 pub record IsDue (rows : List Row) (latest_arrivals : List ℕ) (k latest : ℕ) : Type 0 where
   pub last : (d : Row) → k + 1 ≡ length rows → (slice_index_or rows k d).latest ≤ latest
   pub next : (d : Row) (e : ℕ) → k + 1 < length rows →

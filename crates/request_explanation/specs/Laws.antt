@@ -21,7 +21,7 @@ use Rattle.request_explanation.specs.declared.trials.Trial.{Trial}
 abbrev pub NoneIsBetter : Type 0
 NoneIsBetter = (p : Instance) (route : List ℕ) (r : Request) (kept : ℕ) (best : Trial) → best_trial p route r kept ≡ Some best → AllByRecursion (λ t. is_better t best ≡ false) (trials p route r kept)
 
--- law: if the best trial is overloaded, every trial is, by no less
+-- law: if the best trial is overloaded, every trial is overloaded by at least as much
 abbrev pub OverloadIsLastResort : Type 0
 OverloadIsLastResort = (p : Instance) (route : List ℕ) (r : Request) (kept : ℕ) (best : Trial) →
     best_trial p route r kept ≡ Some best → is_overload best.violation ≡ true →
@@ -38,8 +38,8 @@ limit_rule Capacity = Load
 limit_rule Start = Late
 limit_rule Return = LateReturn
 
--- the violation is the auditor's fault of the route alone: none, or the rule of the limit, at some place of the
--- only route, with this stop
+-- the violation matches the auditor's verdict on this route alone. If there is no violation, the route is
+-- feasible alone; otherwise the verdict names the rule of the limit and this stop, at some place of route 1.
 abbrev pub MatchesFault : Instance → List ℕ → Option LimitViolation → Type 0
 MatchesFault p route None = IsFeasibleAlone p route
 MatchesFault p route (Some m) = (i : ℕ) × IsVerdictWithin 3 8 p (alone route) (Broken (rule_number (limit_rule m.limit)) 1 i m.stop)

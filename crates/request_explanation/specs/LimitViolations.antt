@@ -64,8 +64,8 @@ abbrev pub is_overload : Option LimitViolation → Bool
 is_overload None = false
 is_overload (Some m) = is_load m.limit
 
--- a is less than b: an overload is greater than everything that is not one, and within a kind the excess
--- decides. So loads and times are never compared with each other.
+-- a is less than b: an overload is greater than everything that is not an overload, and within a kind the
+-- excess decides. So loads and times are never compared with each other.
 abbrev pub violates_less : Option LimitViolation → Option LimitViolation → Bool
 violates_less a b =
     if is_overload a then is_overload b && nat_lt (excess_of a) (excess_of b) else (is_overload b || nat_lt (excess_of a) (excess_of b))

@@ -2,7 +2,7 @@
 use Rattle.std.specs.Prelude.{ℕ, ◌+◌, ◌-◌, max, ℤ, ◌+ℤ◌, List, [], ◌∷◌}
 use Rattle.plan_explain.specs.declared.rows.Row.{Row}
 
--- a row one place later, with another arrival and load
+-- a row one place later, with another arrival and with its load changed
 abbrev pub moved_row : ℕ → ℤ → Row → Row
 moved_row arrival change r = record {
   place = r.place + 1;
@@ -14,7 +14,8 @@ moved_row arrival change r = record {
   load = r.load +ℤ change;
 }
 
--- each of some rows, if the time before them changes from `before` to `now`
+-- the rows, each one place later, if the time before them changes from `before` to `now` and each load by
+-- `change`
 abbrev pub moved_from : ℕ → ℕ → ℤ → List Row → List Row
 moved_from now before change [] = []
 moved_from now before change (r ∷ rows) =

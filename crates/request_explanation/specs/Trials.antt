@@ -1,4 +1,4 @@
--- A request tried at each place of a route, even if that exceeds limits, and the trial that violates least.
+-- A request tried at each place of a route, even if that exceeds limits, and the best of these trials.
 use Rattle.std.specs.Prelude.{ℕ, nat_lt, ◌&&◌, ◌||◌, not, Bool, if◌then◌else◌, List, [], ◌∷◌, map, length, Option, Some, None}
 use Rattle.plan_types.specs.Instance.{Instance}
 use Rattle.plan_types.specs.declared.requests.Request.{Request}
@@ -38,7 +38,7 @@ abbrev pub best_from : Option Trial → List Trial → Option Trial
 best_from best [] = best
 best_from best (t ∷ ts) = best_from (better best t) ts
 
--- the first of the trials that violate least
+-- the best of the trials: the first one that violates least and, among those, has the shortest distance
 abbrev pub best_trial : Instance → List ℕ → Request → ℕ → Option Trial
 best_trial p route r kept = best_from None (trials p route r kept)
 

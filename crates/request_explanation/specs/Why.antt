@@ -28,7 +28,7 @@ use Rattle.request_explanation.specs.declared.words.Word.TheVariants.{Late, Afte
 abbrev pub alone_route : Request → List ℕ
 alone_route r = map (λ s. s.number) (stops_of r)
 
--- the first limit that a vehicle exceeds with this request alone, with its values
+-- the first limit that a vehicle exceeds if it serves only this request, with its values
 abbrev pub alone_by : Limit → LimitViolation → List ℕ
 alone_by Capacity m = word_and_number AloneStop m.stop ++ word_and_number Needs m.actual ++ word_and_number VehicleTakes m.allowed
 alone_by Start m = word_and_number AloneStop m.stop ++ word_and_number WouldStartAt m.actual ++ word_and_number Latest m.allowed
@@ -57,7 +57,7 @@ abbrev pub trial_text : List ℕ → ℕ → Option Trial → List ℕ
 trial_text lead v None = []
 trial_text lead v (Some t) = lead ++ word_and_number Vehicle v ++ with_line_feed (outcome_text t.violation t)
 
--- the best trial with a vehicle, if it is used; its pin has `kept` stops
+-- the best trial with a vehicle, or none if the vehicle is not used; its pin has `kept` stops
 abbrev pub used_trial : Instance → Request → ℕ → List ℕ → Option Trial
 used_trial p r kept route = if length route == 0 then None else best_trial p route r kept
 
@@ -75,8 +75,8 @@ fleet_text lead p routes = lead ++ word_and_number Fleet (used_count routes) ++ 
 abbrev pub all_outcomes_text : List ℕ → Instance → List (List ℕ) → List (List ℕ) → Request → List ℕ
 all_outcomes_text lead p pins routes r = lead ++ word AloneFits ++ vehicles_from lead p pins r 1 routes ++ fleet_text lead p routes
 
--- any unplanned request: the first limit that a vehicle exceeds with it alone, or its outcome with each used
--- vehicle
+-- any unplanned request: the first limit that a vehicle exceeds if it serves only this request, or else the
+-- outcome with each used vehicle
 abbrev pub unplanned_by : Option LimitViolation → List ℕ → Instance → List (List ℕ) → List (List ℕ) → Request → List ℕ
 unplanned_by (Some m) lead p pins routes r = alone_text lead m
 unplanned_by None lead p pins routes r = all_outcomes_text lead p pins routes r

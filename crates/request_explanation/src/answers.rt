@@ -32,7 +32,8 @@ use text_buffer::TextBuffer;
 /// best trial with each used vehicle, and how many vehicles are used.
 ///
 /// Vehicles and places count from 1. Times are in the problem's unit, loads in the unit of its demands. For
-/// each pair of places in a route, the running time grows with the places after it up to the first violation.
+/// each choice of two places in a route, the running time grows with the number of later places up to the first
+/// violation.
 pub fn why(
     alloc: Global,
     problem: &Problem,
@@ -60,7 +61,7 @@ pub fn why(
     Ok(Some(text.into_string()?))
 }
 
-/// Returns why the request of this name is in none of these routes, as `why` does, each line with its prefix.
+/// Returns why no route serves the request with this name, with the lines of `why`, each after its prefix.
 /// Returns no line if a route has a stop of the request, or no current request has the name.
 ///
 /// The routes may break any rule, but their stops must be known and distinct in each route. The running time is
@@ -179,7 +180,7 @@ fn put_why(
     put_unplanned(alloc, text, "", problem, pins, routes, request)
 }
 
-// Appends why a request is in no route, each line with this prefix.
+// Appends why a request is in no route, each line after the prefix `lead`.
 fn put_unplanned(
     alloc: Global,
     text: &mut TextBuffer,

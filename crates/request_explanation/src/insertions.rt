@@ -1,9 +1,9 @@
-//! One more stop in a route whose rows are known: the violations of the new route, without computing again the
-//! rows before the stop.
+//! One more stop in a route whose rows are known: the violations of the new route, found without computing the
+//! rows before the stop again.
 //!
-//! Violations found before the stop are carried from place to place. After it, rows are delayed up to the first
-//! violation. Sums are not known to fit here, so these functions return `None` on overflow. `None` then means
-//! "not known", and the caller takes the slow path.
+//! The violations before the stop are carried from place to place. The rows after it are delayed up to the
+//! first violation. Sums are not known to fit here, so these functions return `None` on overflow. `None` then
+//! means "not known", and the caller takes the slow path.
 ghost use Rattle.std.specs.Prelude.{◌≡◌, ◌<◌, ◌≤◌, ◌+◌, ◌-◌, ◌+ℤ◌, ◌∷◌, ◌++◌, [], ℕ, IfOk, IfSome, None, drop, length, pos, slice_index_or, take, true};
 ghost use Rattle.std.specs.List.{insert};
 ghost use Rattle.plan_types.specs.declared.requests.Kind.TheVariants.{LiLim};
@@ -33,7 +33,7 @@ pub(crate) struct FirstViolations {
 }
 
 impl FirstViolations {
-    /// Returns the first violations of these rows followed by others.
+    /// Returns the first violations of the rows of `self`, followed by the rows of `next`.
     pub(crate) fn then(self, next: FirstViolations) -> FirstViolations
         ensures { result ≡ violations_then self next }
     {
@@ -43,7 +43,7 @@ impl FirstViolations {
         }
     }
 
-    /// Returns the least violation of a route that begins with these rows.
+    /// Returns the least violation that a route can have if it begins with the rows of `self`.
     pub(crate) fn least(&self) -> &Option<LimitViolation>
         ensures { result.now ≡ least_of self.now }
     {
@@ -71,8 +71,8 @@ pub(crate) fn violations_at(problem: &Problem, row: &Row) -> FirstViolations
     violations_in(problem, &[*row])
 }
 
-/// Returns whether a scan shows that no row after the first `at` is overloaded with the demand of this stop
-/// added.
+/// Returns whether a scan shows that each row after the first `at` rows stays within the capacity with the
+/// demand of this stop added.
 pub(crate) fn fits_capacity(capacity: u32, rows: &[Row], at: usize, stop: &Stop) -> bool
     requires { at ≤ length rows.now }
     ensures { result ≡ true
@@ -130,9 +130,9 @@ fn lateness_after(rows: &[Row], now: u64, before: u64) -> Option<Option<LimitVio
     Some(None)
 }
 
-// Returns the first violation, if `found` was found before the row with this index and the vehicle arrives at
-// this row at time `now`. If the row and all later ones are known to be light, their loads are not scanned
-// again.
+// Returns the first violation of a route whose rows from index `at` on are delayed. `found` has the violations
+// before that row, and the vehicle arrives at it at time `now`. If `fits_capacity` holds, the loads are not
+// scanned again.
 fn violation_after(
     problem: &Problem,
     found: FirstViolations,
@@ -194,10 +194,10 @@ pub(crate) struct Tour<'a> {
     pub stop: &'a Stop,
 }
 
-/// The legs to the inserted stop and from it, after the first `at` stops of the route.
+/// The legs to the inserted stop and from it, if it is inserted after the first `at` stops of a route.
 #[derive(Clone, Copy)]
 pub(crate) struct Detour {
-    /// The duration of service at the stop before.
+    /// The duration of service at the stop before the inserted one.
     pub service: u32,
     pub to: u32,
     pub from: u32,
@@ -224,8 +224,8 @@ impl Detour {
     }
 }
 
-/// Returns the first limit that the route exceeds with the stop inserted after its first `at` stops, if `front`
-/// was found in these. `None` means not known.
+/// Returns the first limit that the route exceeds with the stop inserted after its first `at` stops. `front`
+/// has the violations in the first `at` rows. `None` means not known.
 pub(crate) fn violation_with(
     problem: &Problem,
     tour: &Tour<'_>,
@@ -251,7 +251,7 @@ pub(crate) fn violation_with(
 }
 
 /// Returns the violations in the rows of the new route up to the stop, which is inserted after the first `at`
-/// stops. `front` has the violations in the rows of these. `None` means not known.
+/// stops. `front` has the violations in the first `at` rows. `None` means not known.
 pub(crate) fn violations_with(
     problem: &Problem,
     tour: &Tour<'_>,
@@ -316,8 +316,8 @@ pub(crate) fn surely_violates_anyway(
     }
 }
 
-// Returns whether the stop is late, inserted after the first `at` stops, or the vehicle arrives at the next
-// stop more than 1 after the latest arrival.
+// Returns whether the stop is late if it is inserted after the first `at` stops, or the vehicle then arrives at
+// the next stop more than 1 after the latest arrival.
 fn is_late_anyway(tour: &Tour<'_>, detour: &Detour, at: usize) -> bool
     requires rows { (1 ≤ at) × (at < length tour.now.rows.now) }
     requires latest_arrivals { at < length tour.now.latest_arrivals.now }
@@ -357,7 +357,7 @@ pub(crate) fn distance_with(distance: u64, detour: &Detour) -> Option<u64>
     from.checked_sub(u64::from(detour.travel))
 }
 
-// Returns the arrival at the stop after the stop of this row.
+// Returns the arrival at the place after this row, which is the row of `stop`.
 fn arrival_after(row: &Row, stop: &Stop, detour: &Detour) -> Option<u64>
     ensures { IfSome result (λ arrival. arrival
         ≡ row.now.start + stop.now.service + detour.now.from) }
@@ -395,8 +395,8 @@ pub(crate) fn rows_with(
     Ok(Some(new))
 }
 
-// Returns the first `at` rows, the new row, and the other rows as its stop delays them: the time before them
-// changes from `before` to `now`.
+// Returns the first `at` rows, the new row, and the other rows, each one place later, with the demand of `stop`
+// and the delay. The time before them changes from `before` to `now`.
 fn moved_rows(
     alloc: Global,
     rows: &[Row],

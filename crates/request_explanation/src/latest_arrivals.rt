@@ -1,7 +1,8 @@
-//! The latest arrival at each row of a route: a vehicle that arrives later is late there or after it.
+//! The latest arrival at each row of a route: a vehicle that arrives later is late at this row or at a later
+//! one.
 //!
-//! One backward pass over windows and legs computes them. It ignores that a window may hold back a start, so
-//! arriving by then does not guarantee that nothing is late.
+//! One backward pass over windows, services and legs computes them. It does not count the waiting for a window
+//! to open, so a vehicle that arrives in time may still be late at a later row.
 ghost use Rattle.std.specs.Prelude.{◌≡◌, ◌<◌, ◌+◌, length, IfOk};
 ghost use Rattle.request_explanation.specs.LatestArrivals.{AreLatestArrivals, AreLatestArrivalsFrom, IsDue, IsLatestArrival};
 
@@ -18,7 +19,7 @@ pub(crate) fn latest_arrivals_of(alloc: Global, rows: &[Row]) -> Result<Vec<u64>
     Ok(latest_arrivals)
 }
 
-// Sets the latest arrival at each row from that at the next row.
+// Sets the latest arrival at each row, from the last row to the first.
 fn fill_latest_arrivals(rows: &[Row], latest_arrivals: &mut [u64])
     requires { length latest_arrivals.old ≡ length rows.now }
     ensures { AreLatestArrivals rows.now latest_arrivals.new }
@@ -28,7 +29,7 @@ fn fill_latest_arrivals(rows: &[Row], latest_arrivals: &mut [u64])
     }
 }
 
-// Returns the latest arrival at one row, when those at later rows are known.
+// Returns the latest arrival at one row if those at later rows are known.
 fn latest_arrival_at(rows: &[Row], latest_arrivals: &[u64], index: usize) -> u64
     requires within { index < length rows.now }
     requires following { AreLatestArrivalsFrom (index + 1) rows.now latest_arrivals.now }

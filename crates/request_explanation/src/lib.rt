@@ -11,23 +11,24 @@
 //! compared by their first lateness in the route; then overloaded ones, compared by their first overload. Ties
 //! go to the shorter distance, and then to the earlier places.
 //!
-//! Except on the slow path, no trial copies a route or computes its schedule again. For each place of the
-//! pickup, the rows of the route (time and load at each place) are delayed once. From one place of the delivery
-//! to the next, the violations found so far are kept, and later rows are delayed only up to the first
-//! violation. If the best trial violates less than what is found so far, the remaining places are skipped,
-//! since each of them violates at least as much.
+//! A single is tried at each place with a copy of the route and the whole schedule of the copy. For a pair, only
+//! the slow path does so. For each place of the pickup, the rows of the route (time and load at each place) are
+//! delayed once. From one place of the delivery to the next, the violations found so far are kept, and later
+//! rows are delayed only up to the first violation. If the best trial violates less than what is found so far,
+//! the remaining places are skipped, since each trial there violates at least as much.
 //!
 //! No row is delayed for a trial that cannot win. That is known if its distance is no shorter than the best
 //! trial's, and the best trial either exceeds no limit, or is late by only 1 and the latest arrivals show that
 //! the new trial is late too.
 //!
-//! A place of the pickup is skipped, with all places of the delivery, in two cases. Either the best trial
-//! violates less than what is found up to the pickup. Or the pickup alone makes the route longer than the best
-//! trial's (a detour to the delivery saves at most 1), and the best trial violates no more than what is found
-//! up to the pickup, or is late by 1 while the pickup makes the vehicle late in any case.
+//! A place of the pickup is skipped, with all places of the delivery after it, in two cases:
+//! - The best trial violates less than what is found up to the pickup.
+//! - The pickup alone makes the route longer than the best trial's (a detour to the delivery saves at most 1).
+//!   Besides, the best trial violates no more than what is found up to the pickup, or it is late by 1 and the
+//!   pickup makes the vehicle late in any case.
 //!
-//! Source: this project's own. The limits are the auditor's rules 6 to 8 with the loads and starts of
-//! `route_sched`, the places those of the insertions of `move_ops`.
+//! Source: this project's own. The limits are the auditor's rules 6 to 8, with the loads and starts of
+//! `route_sched`. The places are those of the insertions of `move_ops`.
 //!
 //! Modules, in reading order:
 //! - `words`: the words between the numbers

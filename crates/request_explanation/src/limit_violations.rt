@@ -78,8 +78,8 @@ pub(crate) fn is_late_by_one(violation: &Option<LimitViolation>) -> bool
     !is_overload(violation) && excess_of(violation) == 1
 }
 
-/// Returns whether one violation is less than another. An overload is greater than everything that is not one;
-/// within a kind the smaller excess is less.
+/// Returns whether one violation is less than another. An overload is greater than everything that is not an
+/// overload; within a kind the smaller excess is less.
 pub(crate) fn violates_less(
     violation: &Option<LimitViolation>,
     other: &Option<LimitViolation>,
@@ -187,7 +187,7 @@ pub(crate) fn lateness_at(row: &Row) -> LimitViolation
     }
 }
 
-// Returns the limit of a late start at a stop; 0 is the depot.
+// Returns the limit that a late start at this stop exceeds; stop 0 is the depot.
 fn time_limit(stop: u32) -> Limit
     ensures { result ≡ time_limit stop }
 {

@@ -1,4 +1,4 @@
-//! A request tried at each place of a route, and the trial that violates least.
+//! A request tried at each place of a route, and the best of these trials.
 ghost use Rattle.std.specs.Prelude.{◌≡◌, ◌≤◌, ◌<◌, ◌+◌, ◌-◌, ℕ, IfOk, IfSome, Some, length, map, take, true};
 ghost use Rattle.std.specs.List.{range_with_len};
 ghost use Rattle.route_sched.specs.Route.{AreDistinctStops};
@@ -22,7 +22,7 @@ use plan_types::{OutOfMemory, Problem, Request, Stop};
 use route_sched::{next_stop, route_distance};
 use std::alloc::Global;
 
-/// The outcome of a request at a place of a route.
+/// The outcome of a request at its places in a route.
 #[derive(Clone, Copy)]
 pub(crate) struct Trial {
     pub violation: Option<LimitViolation>,
@@ -33,7 +33,8 @@ pub(crate) struct Trial {
     pub delivery: u64,
 }
 
-/// Returns the first of the trials that violate least, after the first `kept` stops of the route.
+/// Returns the best trial at the places after the first `kept` stops of the route: the first one that violates
+/// least and, among those, has the shortest distance.
 pub(crate) fn best_trial(
     alloc: Global,
     problem: &Problem,
@@ -99,7 +100,7 @@ fn best_pair(
     best_pickup(alloc, problem, route, pickup, delivery, &base, kept)
 }
 
-// Returns the best trial of a pair, when the rows of the route are known.
+// Returns the best trial of a pair. The rows of the route are those of `base`.
 fn best_pickup(
     alloc: Global,
     problem: &Problem,
@@ -126,7 +127,7 @@ fn best_pickup(
     Ok(best)
 }
 
-// Returns the best of the trials so far and those with the pickup at this place.
+// Returns the best of `so_far` and the trials with the pickup at this place.
 fn best_delivery(
     alloc: Global,
     problem: &Problem,
@@ -163,10 +164,10 @@ fn best_delivery(
     )
 }
 
-// Returns whether the best trial so far surely beats every trial with the pickup (the stop of the tour) at this
-// place. `front` was found before that place. Each such trial violates at least what is found up to the pickup.
-// Its distance is at least the distance with the pickup alone, less 1, since a detour to the delivery saves at
-// most 1.
+// Returns whether the best trial so far surely beats every trial with the pickup, the stop of `base`, at this
+// place. `front` has the violations in the rows before this place. Each such trial violates at least as much as
+// the rows up to the pickup. Its distance is at least the distance with the pickup alone, less 1, since a
+// detour to the delivery saves at most 1.
 fn can_skip_pickup(
     problem: &Problem,
     base: &Tour<'_>,
@@ -248,8 +249,8 @@ fn distance_with_pickup(problem: &Problem, base: &Tour<'_>, picked: &[u32], plac
     route_distance(problem, picked)
 }
 
-// Returns the best of the trials so far and those with the pickup at this place, when the rows with the pickup
-// are known.
+// Returns the best of `so_far` and the trials with the pickup at this place. `tour` is the route with the
+// pickup.
 fn best_delivery_after(
     alloc: Global,
     problem: &Problem,
@@ -308,8 +309,8 @@ fn is_settled(front: &FirstViolations, best: &Option<Trial>) -> bool
     }
 }
 
-// Returns the trial of the tour with its stop after the first `at` stops. `None` means not known, `Some(None)`
-// that it is no better than the best trial so far.
+// Returns the trial of the tour with its stop inserted after the first `at` stops. `None` means not known.
+// `Some(None)` means that the trial is no better than the best trial so far.
 fn quick_trial(
     problem: &Problem,
     tour: &Tour<'_>,
@@ -342,8 +343,8 @@ fn quick_trial(
     Some(Some(trial))
 }
 
-// Returns whether the best trial so far surely beats the tour with its stop at this place and this distance,
-// since that tour is known to violate at least as much.
+// Returns whether the best trial so far surely beats the tour with its stop inserted at this place. That is so
+// if the tour with the stop is no shorter, and is known to violate at least as much.
 fn is_beaten(
     problem: &Problem,
     tour: &Tour<'_>,
@@ -466,7 +467,7 @@ fn trial_of(
     })
 }
 
-// Returns the better of the best trial so far and the next one.
+// Returns the better of the best trial so far and the next trial.
 fn better(best: Option<Trial>, trial: Trial) -> Option<Trial>
     ensures { result ≡ better best trial }
 {

@@ -4,7 +4,7 @@
 use plan_types::{OutOfMemory, Route, Routes};
 use std::alloc::Global;
 
-/// Three customers, two of whom one vehicle can serve. The least distance of a plan is 30.
+/// Three customers, of whom one vehicle can serve at most two. The least distance of a plan is 30.
 pub const THREE_CUSTOMERS: &[u8] = b"NAME : t3
 TYPE : CVRP
 DIMENSION : 4

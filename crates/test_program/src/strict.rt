@@ -1,5 +1,5 @@
-//! Bytes that pass through a strict writer, in parts that the program never writes, and a session over a
-//! failing device in memory: `StrictWriter` of `command_server`.
+//! `StrictWriter` of `command_server`: texts in parts that the program never writes, and a session over a
+//! failing device in memory.
 
 use checkpoint::{SECTORS, format};
 use command_server::{FailedAnswer, FailureTracking, ServeFault, Sink, StrictWriter, serve_source};
@@ -33,7 +33,7 @@ const WRITE_STEPS: [WriteStep; 14] = [
     (b"fault device", REFUSED),
 ];
 
-// Returns whether the text is accepted, and the writer then reports this failure.
+// Returns whether the writer accepts the text of `put` and then reports its failure, or none.
 fn reports(
     writer: &mut StrictWriter<Vec<u8>>,
     session: &Session<MemDevice>,

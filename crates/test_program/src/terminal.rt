@@ -32,10 +32,10 @@ impl Read for Terminal {
     }
 }
 
-/// The end is within a line.
+/// The end of the input is within a line.
 const WITHIN_A_LINE: Calls = [b"show\nne", b"xt", b"", b"\nnext\n"];
 
-/// The end is after the line that announces a text, before the first byte of the text.
+/// The end of the input is after the line that announces a text, before the first byte of the text.
 const BEFORE_A_TEXT: Calls = [b"show\n", b"load lilim 0 5", b"", b"hello"];
 
 /// The answers, and how many calls of the reader were made.
@@ -75,7 +75,7 @@ fn reads_nothing_after_the_end(rt: HostRuntime) -> Result<(), Fail> {
     Ok(())
 }
 
-// Returns how many calls `reads` reads make, after a first read with an empty buffer.
+// Returns how many calls the reader gets for one read with an empty buffer and then `reads` more reads.
 fn read_calls(calls: Calls, reads: u32) -> Result<usize, IoFault> {
     let mut reader = FailureTracking::new(Terminal { calls, made: 0 });
     let mut block = [0; 8];

@@ -1,4 +1,4 @@
--- The stops kept so far, followed by those kept from the rest, are all that are kept.
+-- The stops kept so far, followed by those that are kept from the remaining route, are all kept stops.
 use Rattle.std.proofs.Common.{◌≡◌, drop}
 use Rattle.route_sched.specs.Route.{AreDistinctStops}
 use Rattle.plan_picture.specs.DrawnStops.{kept_after, kept_of}

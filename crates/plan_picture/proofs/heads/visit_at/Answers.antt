@@ -1,4 +1,5 @@
--- The visit at a place, counted from 1, is the item before that index of the list of visits.
+-- The visit at place n of a route is the item with index n - 1 of the list of visits: places count from 1,
+-- indices from 0.
 use Rattle.std.proofs.Common.{◌≡◌, ◌∙◌, ℕ, zero, suc, ◌-◌, ◌<◌, List, ap, sym, arith, slice_get}
 use Rattle.std.specs.Option.{option_map}
 use Rattle.std.proofs.lemmas.Iterator.Adapters.{option_map_id}
@@ -8,7 +9,7 @@ use Rattle.route_sched.specs.VisitList.{visits_from}
 use Rattle.plan_audit.specs.Rules.{item_at}
 use Rattle.plan_picture.proofs.heads.visit_at.Goals as goal
 
--- the item at a place is the item at the index before it, counted from 0
+-- the item at place n, counted from 1, is the item at index n - 1, counted from 0
 item_before : {X : Type 0} (xs : List X) (n : ℕ) → 0 < n → item_at xs n ≡ slice_get xs (n - 1)
 item_before xs zero some = absurd (omega arith)
 item_before xs (suc k) some = ap (slice_get xs) (let e : k ≡ suc k - 1 = omega arith in e)

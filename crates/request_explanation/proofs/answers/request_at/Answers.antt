@@ -1,4 +1,4 @@
--- A stop that belongs to no request has none; the stop of a request is found under the request's name.
+-- If a stop belongs to no request, none is found; otherwise its request is found under the request's name.
 use Rattle.std.proofs.Common.{◌∙◌, sym}
 use Rattle.plan_audit.proofs.FirstLemmas.{map-none}
 use Rattle.plan_types.specs.Instance.{request_with}

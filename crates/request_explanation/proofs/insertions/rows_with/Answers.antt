@@ -1,4 +1,5 @@
--- The rows before the stop, its own and the delayed ones after it are the rows of the route with the stop.
+-- The rows before the stop, the stop's own row, and the delayed rows after it are the rows of the route with
+-- the stop.
 use Rattle.std.proofs.Common.{◌≡◌, ◌∙◌, ◌∷◌, ◌++◌, Option, Vec, Global, IfSome, get_or, take, drop, subst, pos}
 use Rattle.plan_explain.specs.declared.rows.Row.{Row}
 use Rattle.request_explanation.specs.MovedRows.{moved_from}

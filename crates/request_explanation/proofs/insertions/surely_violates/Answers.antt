@@ -1,5 +1,5 @@
--- A vehicle that arrives after the stop, at the next place, later than the latest arrival has a violation of at
--- least 1.
+-- If the vehicle arrives at the place after the inserted stop later than the latest arrival there, the route
+-- has a violation of at least 1.
 use Rattle.std.proofs.Common.{◌≡◌, pos, subst}
 use Rattle.std.proofs.lemmas.Bool.{ltb-true}
 use Rattle.plan_types.specs.Instance.{Instance}

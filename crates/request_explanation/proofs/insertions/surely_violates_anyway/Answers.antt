@@ -1,5 +1,5 @@
--- A vehicle that is late at the stop, or late by more than 1 after it, has a violation of at least 1 wherever
--- the other stop is inserted.
+-- If the vehicle is late at the stop, or by more than 1 after it, the route has a violation of at least 1
+-- wherever the other stop is inserted.
 use Rattle.std.proofs.Common.{◌≡◌, pos, subst}
 use Rattle.plan_types.specs.Instance.{Instance}
 use Rattle.plan_types.specs.declared.requests.Kind.TheVariants.{LiLim}

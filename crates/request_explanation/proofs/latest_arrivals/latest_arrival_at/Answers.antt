@@ -1,4 +1,5 @@
--- A row's latest arrival is its own limit, or the next latest arrival less the travel time, whichever is less.
+-- A row's latest arrival is the smaller of its own limit, and the latest arrival at the next row less the time
+-- from start to arrival.
 use Rattle.std.proofs.Common.{◌+◌, ◌<◌, length, get_or, pos, arith}
 use Rattle.plan_explain.specs.declared.rows.Row.{Row}
 use Rattle.request_explanation.proofs.LatestArrivalLemmas.{latest_next}

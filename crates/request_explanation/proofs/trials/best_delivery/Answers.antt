@@ -1,4 +1,5 @@
--- The route with only the pickup, before a delivery at the end, is a tour whose rows and distance are known.
+-- If the delivery is inserted at the end, the stops before it are the route with only the pickup: a tour whose
+-- rows and distance are known.
 use Rattle.std.proofs.Common.{◌≡◌, ◌∙◌, ◌+◌, ◌-◌, ap, sym, subst, arith, take, length}
 use Rattle.std.specs.List.{insert}
 use Rattle.std.proofs.lemmas.List.Edits.{length-insert}

@@ -1,5 +1,5 @@
--- A place of the delivery that is tried or skipped keeps the best of all; once the best trial is settled it
--- stays so.
+-- A place of the delivery that is tried or skipped keeps the best of all. Once the best trial is settled, it
+-- stays the best.
 use Rattle.std.proofs.Common.{◌≡◌, ◌∙◌, ◌<◌, ◌+◌, ◌-◌, ap, subst, arith, pos, map, sym, take, drop, length, None}
 use Rattle.std.specs.List.{range_with_len}
 use Rattle.std.proofs.lemmas.List.Edits.{length-insert}

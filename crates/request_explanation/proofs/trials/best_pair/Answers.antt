@@ -1,4 +1,5 @@
--- The route, without the two stops inserted at its end, is a tour whose rows and distance are known.
+-- If both stops are inserted at the end, the stops before them are the route: a tour whose rows and distance
+-- are known.
 use Rattle.std.proofs.Common.{◌≡◌, ◌∙◌, ◌+◌, ◌-◌, refl, ap, sym, subst, arith, length}
 use Rattle.std.specs.List.{insert}
 use Rattle.std.proofs.lemmas.List.Edits.{length-insert}

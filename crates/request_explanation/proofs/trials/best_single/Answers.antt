@@ -1,4 +1,4 @@
--- One more place keeps the best of all.
+-- Once the next place is tried, the best trial so far and the remaining places still lead to the best of all.
 use Rattle.std.proofs.Common.{◌∙◌, ◌+◌, ap, sym, arith}
 use Rattle.request_explanation.specs.Trials.{best_from, better}
 use Rattle.request_explanation.proofs.TrialLemmas.{single_next, singles}

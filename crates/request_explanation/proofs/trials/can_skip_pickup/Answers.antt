@@ -1,6 +1,6 @@
--- The best trial stays if what is found up to the pickup is a greater violation. It also stays if the violation
--- is no less and the pickup alone makes the route longer, or if the best trial is late by 1, the route is
--- longer and the pickup makes it late in any case.
+-- The best trial stays in three cases: the rows up to the pickup violate more; or they violate no less, and the
+-- pickup alone makes the route longer; or the best trial is late by 1, the route is longer, and the pickup
+-- makes it late in any case.
 use Rattle.std.proofs.Common.{◌≡◌, ◌∙◌, ◌<◌, ◌-◌, ◌==◌, true, false, not, sym, ap, arith}
 use Rattle.std.proofs.lemmas.Bool.{and_parts, eqb-true, not-true}
 use Rattle.route_sched.specs.Schedule.{route_length}

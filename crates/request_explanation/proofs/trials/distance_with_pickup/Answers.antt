@@ -1,4 +1,4 @@
--- The distance with the pickup is the route's distance with the detour.
+-- The distance of the route with the pickup is the distance of the route with the detour.
 use Rattle.std.proofs.Common.{◌∙◌, ◌-◌, ap, sym, arith}
 use Rattle.route_sched.specs.Schedule.{route_length}
 use Rattle.request_explanation.proofs.InsertionLemmas.{distance_reported}

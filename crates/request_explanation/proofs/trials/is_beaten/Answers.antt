@@ -1,4 +1,4 @@
--- A trial that is no shorter than the best one, and violates at least as much, leaves the best trial as it is.
+-- A trial that is no shorter than the best one, and violates at least as much, does not replace it.
 use Rattle.std.proofs.Common.{◌≡◌, ◌∙◌, ◌≤◌, ◌+◌, ◌==◌, false, not, ap, sym, arith}
 use Rattle.std.proofs.lemmas.Bool.{and_parts, eqb-true, not-true}
 use Rattle.route_sched.specs.Schedule.{route_length}

@@ -1,4 +1,4 @@
--- The next tick precedes the rest, and there are at most fourteen.
+-- The next tick precedes the remaining ticks, and there are at most fourteen ticks.
 use Rattle.std.proofs.Common.{◌≡◌, ◌∙◌, ◌+◌, ◌-◌, ◌*◌, ◌++◌, suc, ap, append_assoc, arith}
 use Rattle.std.specs.Int.{div_ceil}
 use Rattle.std.specs.List.{flat_map, range_with_len}
