@@ -1,4 +1,5 @@
--- The schedule of stops given by place: `start`, `load` and the like, for a function instead of a route.
+-- The schedule of stops given by place: `start`, `load` and the like, for a function from places to stops
+-- instead of a route.
 use Rattle.std.specs.Prelude.{◌≡◌, ℕ, ◌+◌, ◌<◌, ◌≤◌, ◌==◌, ℤ, pos, ◌+ℤ◌, ◌∷◌, map, sum, fold, slice_index_or, if◌then◌else◌}
 use Rattle.std.specs.List.{range_with_len}
 use Rattle.plan_types.specs.declared.requests.Stop.{Stop}
@@ -29,6 +30,6 @@ load_along at k = fold ◌+ℤ◌ (pos 0) (map (λ m. (at m).demand) (range_with
 unfoldable pub length_along : (ℕ → Stop) → ℕ → ℕ
 length_along at k = sum (map (λ m. distance (at m) (at (m + 1))) (range_with_len 0 k))
 
--- with this start at place i, no window up to place `last` is missed
+-- with service at place i starting at t, no later window up to place `last` is missed
 abbrev pub MeetsLaterWindowsAlong : Kind → (ℕ → Stop) → ℕ → ℕ → ℕ → Type 0
 MeetsLaterWindowsAlong kind at last i t = kind ≡ LiLim → (k : ℕ) → i < k → k ≤ last → moved_along at i t k ≤ (at k).latest
