@@ -134,7 +134,7 @@ pub logged : (o : Option ℕ) (log : List (ℕ × Course)) (v : ℕ) → MatchOp
 logged None log v reported some = absurd (let h : false ≡ true = some in cc)
 logged (Some k) log v reported some = has_at log k (v, reported.0) reported.1
 
--- ---- room for a vehicle that is not in the log: together with 0 and this vehicle, its vehicles are distinct
+-- ---- room for a vehicle that is not in the log: 0, this vehicle and the vehicles of the log are distinct
 -- numbers that are at most the fleet
 apart_from : (log : List (ℕ × Course)) (v : ℕ) → is_logged log v ≡ false → AllByRecursion (λ u. eqb v u ≡ false) (map (λ e. e.0) log)
 apart_from [] v none = tt
