@@ -47,7 +47,7 @@ undone_same tours (e ∷ log) v c had = elim (or_cases (eqb e.0 v) (is_logged lo
   | inr later ↦ ap (λ l. set l (e.0 - 1) e.1) (undone_same tours log v c later)
 ]
 
--- a vehicle that is not in the log changes in the base too
+-- another tour for a vehicle that is not in the log changes the base, too
 set_below : (tours : List Course) (log : List (ℕ × Course)) (n v : ℕ) (c : Course) → 1 ≤ v → AreWithin n log → is_logged log v ≡ false
     → undone (set tours (v - 1) c) log ≡ set (undone tours log) (v - 1) c
 set_below tours [] n v c from all none = refl
