@@ -369,7 +369,7 @@ fn remove_entry(log: &mut Vec<(u32, Tour)>, entry: usize) -> (u32, Tour)
     log.remove(entry)
 }
 
-// Clears a log and keeps the memory of its tours as far as there is room.
+// Clears a log and keeps the memory of its tours as far as `spare` can grow.
 fn clear_log(log: &mut Vec<(u32, Tour)>, spare: &mut Vec<Tour>)
     ensures none { log.new.items ≡ [] }
     ensures room { vec_capacity log.new ≡ vec_capacity log.old }

@@ -77,8 +77,8 @@ pub fn remove(
     plan_if(alloc, &draft, made)
 }
 
-/// Exchanges two requests: each pickup takes the place of the other's pickup, each delivery that of the other's
-/// delivery.
+/// Exchanges two requests: each pickup takes the place of the other's pickup, and each delivery the place of
+/// the other's delivery.
 ///
 /// Returns `None` if the names are equal, if one of them is not of a current, planned request, if one of the
 /// requests has a pinned stop, if one is a single and the other a pair, or if the result does not pass.

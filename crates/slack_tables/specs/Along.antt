@@ -17,7 +17,8 @@ stop_on c k = slice_index_or (c.depot ∷ c.stops) k c.depot
 abbrev pub stay : (ℕ → Stop) → ℕ → ℕ
 stay at k = (at k).service + distance (at k) (at (k + 1))
 
--- the greatest, over the places up to k, of the earliest time at the place plus the time from it to k
+-- the start of service at place k: the greatest, over all places j up to k, of the earliest time at j plus the
+-- time from j to k
 abbrev pub start_along : (ℕ → Stop) → ℕ → ℕ
 start_along at k = chain (λ j. (at j).earliest) (stay at) 0 k
 

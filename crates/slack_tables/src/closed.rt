@@ -83,7 +83,8 @@ fn deadline_of(place: &PlaceSlack) -> u64
     place.latest_start.min(u64::from(place.at.stop.latest))
 }
 
-/// Returns whether service at place `i - 1` starts after the pickup's latest time.
+/// Returns whether service at place `i - 1` starts after the pickup's latest time. If it does, place `i` and
+/// all later places are too late for the pickup.
 #[inline(always)]
 pub(crate) fn is_past(limits: Limits, places: &[PlaceSlack], pickup: &Stop, i: usize) -> bool
     requires places { All IsSmallRow places.now }
