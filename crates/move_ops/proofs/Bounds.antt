@@ -1,5 +1,5 @@
--- No route is so long that its distances do not fit. The bound is generous: a distance is taken to be at most
--- its own square.
+-- No route is so long that the sum of its distances overflows. The bound is generous: a distance is taken to be
+-- at most its own square.
 use Rattle.std.proofs.Common.{◌≡◌, ℕ, zero, suc, ◌+◌, ◌*◌, ◌/◌, ◌≤◌, ℤ, ◌-ℤ◌, eqb, leb, ltb, cond, Bool, true, false}
 use Rattle.std.proofs.Common.{List, [], ◌∷◌, length, map, sum, fold, mul-le-mul, Option, Some, None, get_or, refl, subst, ◌∙◌, inl, inr, arith}
 use Rattle.std.specs.Prelude.{unsigned_abs, unwrap_or}

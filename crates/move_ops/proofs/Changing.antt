@@ -59,7 +59,7 @@ module _ (local : PassingIsLocal) (says : FeasibleAloneDecidesFeasibility) (p : 
 pub each_once : PlansAreDisjointRoutes → (p : Instance) (others : List (List ℕ)) → IsPlan p others → All (AreDistinctStops p) others
 each_once plans p others plan = ((plans p others).0 plan).0
 
--- the item at a place of routes that are changed one by one
+-- the item at index r of routes that are each changed by f
 pub item_map : (f : List ℕ → List ℕ) (routes : List (List ℕ)) (r : ℕ) (route : List ℕ) → item_at routes r ≡ Some route
     → item_at (map f routes) r ≡ Some (f route)
 item_map f routes zero route at = absurd (none_some route at)

@@ -194,7 +194,7 @@ module _ (local : PassingIsLocal) (p : Instance) (pins routes : List (List ℕ))
       by None at = omega arith
       by (Some pin) at = of_pin pin at (length pin) refl
 
--- a route with stops opens no vehicle, and there is always a bound for opening none
+-- inserting a request into a route with stops opens no vehicle
 pub used_opens : (kind : Kind) (route : List ℕ) → (length route == 0) ≡ false → opens kind route ≡ false
 used_opens LiLim route some = some
 used_opens Vrp route some = refl
@@ -654,7 +654,8 @@ module _ (laws : InsertionLaws) {p : Instance} {pins : List (List ℕ)} {courses
             (let_too y same let_in))
             (before y (fit y c) same))
 
-  -- an insertion that costs less than the limit is ahead of one that doesn't
+  -- insertion y is allowed, or f is ahead of y: an insertion that costs less than the limit is ahead of one
+  -- that doesn't
   abbrev IsAllowedOrAhead : Limit → Candidate → Insertion → Bool → Type 0
   IsAllowedOrAhead l f y o = IsLet l y ⊎ Ahead p routes r (candidate_place f) f.opens f.addition.distance y o (adds y)
 

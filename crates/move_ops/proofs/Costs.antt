@@ -106,7 +106,7 @@ module _ (p : Instance) (routes : List (List ℕ)) (r : Request) where
     pub added : pos (route_length p (new_route x)) ≡ pos (route_length p (route_of routes x.0)) +ℤ d
 
   -- insertion x is no worse than y: it opens fewer vehicles; or equally many, and it adds less distance; or
-  -- also the same distance, and its place is no later
+  -- both are equal, and its place is no later
   abbrev pub Ahead : Insertion → Bool → ℤ → Insertion → Bool → ℤ → Type 0
   Ahead x a d y b e = ((a ≡ false) × (b ≡ true)) ⊎ ((a ≡ b) × ((d <ℤ e) ⊎ ((d ≡ e) × (is_no_later x y ≡ true))))
 

@@ -1,4 +1,5 @@
--- The number of requests that a plan leaves out after one is inserted; and no plan is too long to be summed.
+-- The number of requests that a plan leaves out after one is inserted; and no plan is so long that its total
+-- distance overflows.
 use Rattle.std.proofs.Common.{◌≡◌, ℕ, ◌+◌, ◌*◌, ◌^◌, ◌≤◌, ◌||◌, not, true, false, cond, List}
 use Rattle.std.proofs.Common.{[], ◌∷◌, length, length-append, Some, refl, sym, ap, ◌∙◌, inl, inr, arith, nat_eq}
 use Rattle.std.specs.List.{concat, count_by}

@@ -26,7 +26,7 @@ use Rattle.move_ops.proofs.Replacing.{get_set, get_set_other, item_set_other}
 use Rattle.std.proofs.lemmas.Option.{slice_get_past, slice_get_within}
 
 -- ---- vehicle hints
--- a stop with 0 had it before and is not the stop that gets a hint now
+-- a stop whose hint is 0 had this hint before, and is not the stop that gets a hint now
 pub seat_first : (n x v : ℕ) → 1 ≤ v → (vehicle_hints : List ℕ) → x < length vehicle_hints → slice_get (set vehicle_hints x v) n ≡ Some 0
     → (nat_eq n x ≡ false) × (slice_get vehicle_hints n ≡ Some 0)
 seat_first n x v some vehicle_hints within at = elim (eqb_tells n x) [
@@ -58,7 +58,7 @@ none_with n (r ∷ routes) (suc k) new none out =
     let h = append_false n r (concat routes) none in
     list_any-append (nat_eq n) r (concat (set routes k new)) ∙ or_from (has r n) (has_stop (set routes k new) n) h.0 (none_with n routes k new h.1 out)
 
--- the plan of the tables with another one for a vehicle
+-- the plan of the tables with another table for a vehicle
 pub plan_with : (tables : List Course) (k : ℕ) (c : Course) → plan_of (set tables k c) ≡ set (plan_of tables) k (course_route c)
 plan_with tables k c = map-set course_route tables k c
 
@@ -193,7 +193,7 @@ has_in_vehicle (r ∷ routes) (suc zero) n had = list_any-append (nat_eq n) r (c
 has_in_vehicle (r ∷ routes) (suc (suc k)) n had =
     list_any-append (nat_eq n) r (concat routes) ∙ or_right (has r n) (has_stop routes n) (has_in_vehicle routes (suc k) n had)
 
--- ---- the tables with another one for a vehicle
+-- ---- the tables with another table for a vehicle
 pub tables_with : (p : Instance) (tours : List Course) (k : ℕ) (tour : Course) → AreTablesIn p tours
     → course_of p (course_route tour) ≡ tour → AreTablesIn p (set tours k tour)
 tables_with p tours k tour are is =

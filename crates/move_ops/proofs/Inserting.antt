@@ -204,7 +204,7 @@ module _ (found : NamedRequestsAreFound) (local : PassingIsLocal) (says : Feasib
       ordered r (length (route_of pins x.0)) (length (route_of routes x.0)) x.1 x.2
       (and_parts (leb x.0 (length routes)) (are_places r (length (route_of pins x.0)) (length (route_of routes x.0)) x.1 x.2) rest).1
 
-  -- the new route meets the requirements for a check
+  -- the stops of the new route are current and distinct, as a check of the route requires
   pub route_once : AreDistinctStops p (inserted r x.1 x.2 (route_of routes x.0))
   route_once = inserted_once found local p pins routes valid good name r named free x.0 x.1 x.2 low high
 

@@ -47,7 +47,7 @@ undone_same tours (e ∷ log) v c had = elim (or_cases (eqb e.0 v) (is_logged lo
   | inr later ↦ ap (λ l. set l (e.0 - 1) e.1) (undone_same tours log v c later)
 ]
 
--- a vehicle that is not in the log changes in the base too
+-- another tour for a vehicle that is not in the log changes the base, too
 set_below : (tours : List Course) (log : List (ℕ × Course)) (n v : ℕ) (c : Course) → 1 ≤ v → AreWithin n log → is_logged log v ≡ false
     → undone (set tours (v - 1) c) log ≡ set (undone tours log) (v - 1) c
 set_below tours [] n v c from all none = refl
@@ -134,7 +134,7 @@ pub logged : (o : Option ℕ) (log : List (ℕ × Course)) (v : ℕ) → MatchOp
 logged None log v reported some = absurd (let h : false ≡ true = some in cc)
 logged (Some k) log v reported some = has_at log k (v, reported.0) reported.1
 
--- ---- room for a vehicle that is not in the log: together with 0 and this vehicle, its vehicles are distinct
+-- ---- room for a vehicle that is not in the log: 0, this vehicle and the vehicles of the log are distinct
 -- numbers that are at most the fleet
 apart_from : (log : List (ℕ × Course)) (v : ℕ) → is_logged log v ≡ false → AllByRecursion (λ u. eqb v u ≡ false) (map (λ e. e.0) log)
 apart_from [] v none = tt

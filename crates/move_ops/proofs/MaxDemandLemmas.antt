@@ -5,7 +5,7 @@ use Rattle.slack_tables.specs.FitsNowhere.{IsMaxDemand}
 use Rattle.move_ops.specs.MaxDemands.{AreMaxDemands}
 use Rattle.move_ops.proofs.Times.{none_some, some_same}
 
--- nothing is known about a vehicle that does not exist
+-- a greatest demand for a course is one for an equal course
 same_room : (a c : Course) (x y : ℤ) → IsMaxDemand a x → Some a ≡ Some c → Some x ≡ Some y → IsMaxDemand c y
 same_room a c x y is here there = subst (λ d. IsMaxDemand d y) (some_same a c here) (subst (IsMaxDemand a) (some_same x y there) is)
 

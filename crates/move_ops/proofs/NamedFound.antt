@@ -42,7 +42,7 @@ module _ (law : NamedRequestsAreFound) (stand : RequestsAreStoredByName) (p : In
       missing None some e = (let h : IsSome {T = Stop} None = some in cc)
       missing (Some s) some e = none_some s e
 
-  -- a number that is the name of the request with this stop is found as a name
+  -- if the request with stop n has the name n, it is found under n
   own : name_at p n ≡ Some n → (r : Request) × (lookup (nat_eq n) p.requests ≡ Some r)
   own is = by (request_with p n) refl is
     where

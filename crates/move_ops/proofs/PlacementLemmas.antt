@@ -52,7 +52,7 @@ placed_is : (p : Instance) (pins routes : List (List ℕ)) (r : Request) (x : In
     → placed p pins routes (request_name r) ≡ with_request_at routes r x
 placed_is p pins routes r x best put = rw (best, put.there) refl
 
--- a request is found by its own name, and what holds for one name holds for the other
+-- a request that is found under a name has this name, so a statement about one holds for the other
 module _ (p : Instance) (valid : IsInstance p) (name : ℕ) (r : Request) (found : lookup (nat_eq name) p.requests ≡ Some r) where
   pub named_so : request_name r ≡ name
   named_so = name_of p.requests name r valid.named found

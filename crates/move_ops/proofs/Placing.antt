@@ -45,7 +45,7 @@ module _ (law : NamedRequestsAreFound) (stand : RequestsAreStoredByName) (local 
     (p : Instance) (pins routes : List (List ℕ)) (valid : IsInstance p) (good : passes p pins routes ≡ true) (r : Request)
     (named : lookup (nat_eq (request_name r)) p.requests ≡ Some r)
     (x : Insertion) (free : is_planned routes r ≡ false) (place : is_place_of pins routes r x ≡ true) where
-  -- the route meets the requirements for a check
+  -- the stops of the new route are current and distinct, as a check of the route requires
   pub requested_once : AreDistinctStops p (inserted r x.1 x.2 (route_of routes x.0))
   requested_once = route_once law local says p pins routes valid good (request_name r) r named free x place
 

@@ -41,7 +41,7 @@ module _ (keep : ℕ → Bool) where
       let t : keep x ≡ true = each zero x refl in
       rw t (ap (λ (ys : List ℕ). x ∷ ys) (all_kept xs (λ j m at. each (suc j) m at)))
 
-  -- a removed stop that is inserted at its old index gives the old list
+  -- a removed stop that is inserted at its old index restores the old list
   one_back : (n : ℕ) (xs : List ℕ) (k : ℕ) → keep n ≡ false → slice_get xs k ≡ Some n → ((j m : ℕ) → slice_get xs j ≡ Some m → (j ≡ k → ⊥) → keep m ≡ true)
       → insert (filter keep xs) k n ≡ xs
   one_back n [] k gone at others = absurd (none_some n at)
@@ -55,7 +55,8 @@ module _ (keep : ℕ → Bool) where
       let t : keep x ≡ true = others zero x refl (λ e. omega arith) in
       rw t (ap (λ (ys : List ℕ). x ∷ ys) (one_back n xs k gone at (λ j m there apart. others (suc j) m there (λ e. apart (omega arith)))))
 
-  -- two removed stops that are inserted at their old indices, the first of them first, give the old list
+  -- two removed stops that are inserted at their old indices, the stop with the lower index first, restore the
+  -- old list
   two_back : (a b : ℕ) (xs : List ℕ) (k l : ℕ) → keep a ≡ false → keep b ≡ false → k < l → slice_get xs k ≡ Some a → slice_get xs l ≡ Some b
       → ((j m : ℕ) → slice_get xs j ≡ Some m → (j ≡ k → ⊥) → (j ≡ l → ⊥) → keep m ≡ true) → insert (insert (filter keep xs) k a) l b ≡ xs
   two_back a b [] k l first_gone gone order first second others = absurd (none_some a first)

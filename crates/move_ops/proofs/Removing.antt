@@ -64,7 +64,7 @@ test_of test (x ∷ xs) m all in_it =
       | inr there ↦ test_of test xs m both.1 there
     ]
 
--- the request found at a number has a stop with it
+-- the request found at a number has a stop with this number
 module _ (n : ℕ) (r : Request) where
   found_in : (q : Request) (rest : Option Request) → (rest ≡ Some r → 1 ≤ times n (numbers_of r))
       → option_or (option_map (λ _. q) (stop_in n q)) rest ≡ Some r → 1 ≤ times n (numbers_of r)

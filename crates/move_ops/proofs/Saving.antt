@@ -33,7 +33,7 @@ use Rattle.move_ops.proofs.Rerouting.{length_joined}
 use Rattle.move_ops.proofs.Times.{none_some, some_same}
 
 -- ---- one more stop
--- without it the route is the old one
+-- without the inserted stop the route is the old one
 left_out : (route : List ℕ) (m n : ℕ) → m ≤ length route → joined (insert route m n) m (insert route m n) (suc m) ≡ route
 left_out route zero n within = refl
 left_out [] (suc m) n within = absurd (omega arith)

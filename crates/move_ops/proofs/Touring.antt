@@ -43,7 +43,7 @@ tours_more p cs k x tours more t at below course route is before = subst (AreTou
   courses = courses_more p tours x.vehicle t (ap (course_of p) route ∙ sym course) before.courses;
 })
 
--- a test of the changes from change k on, if change k passes
+-- if change k passes a test, all changes from k on pass it exactly when all after k do
 pub all_more : (test : Change → Bool) (cs : List Change) (k : ℕ) (x : Change) → x ≡ get_or cs k x → k < length cs → test x ≡ true
     → list_all test (drop (k + 1) cs) ≡ list_all test (drop k cs)
 all_more test cs k x at below t =

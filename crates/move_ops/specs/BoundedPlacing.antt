@@ -11,7 +11,8 @@ IsFar p routes other below =
     ((cost_of p routes).unplanned ≤ (cost_of p other).unplanned) ⊎ ((cost_of p routes).vehicles < (cost_of p other).vehicles)
     ⊎ ((pos (cost_of p routes).distance +ℤ below) ≤ℤ pos (cost_of p other).distance)
 
--- the new plan is the old one with the request at its best insertion if that is not far, else the old one
+-- the new plan is the old one with the request at its best insertion if that plan is not far (`IsFar`), else
+-- the old one
 pub record IsPlacedBelow (p : Instance) (pins : List (List ℕ)) (name : ℕ) (below : ℤ) (made : Bool) (old new : List (List ℕ)) : Type 0 where
   pub put : made ≡ true → new ≡ placed p pins old name
   pub near : made ≡ true → IsFar p old (placed p pins old name) below → ⊥

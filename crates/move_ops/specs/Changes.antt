@@ -49,7 +49,7 @@ pub record AreToursOf (p : Instance) (cs : List Change) (tours : List (ℕ × Co
   pub changes : changes_of tours ≡ cs
   pub courses : AreCourses p tours
 
--- the requirements on a route before its limits are checked, next to a tour that has some of its stops
+-- the requirements for checking the limits of a route: on the route, and on a tour that has some of its stops
 pub record IsRouteToCheck (p : Instance) (c : Course) (route : List ℕ) : Type 0 where
   pub near : IsCourseIn p c
   pub once : AreDistinctStops p route
@@ -73,7 +73,7 @@ pub record AreChanges (old new : List (List ℕ)) (changes : List Change) : Type
   pub there : AllByRecursion (λ c. c.route ≡ route_of new c.vehicle) changes
   pub plan : with_routes old changes ≡ new
 
--- the vehicle has the stop; or it is 0, and no vehicle has it
+-- vehicle v has stop n; or v is 0, and no vehicle has the stop
 abbrev pub IsVehicleWith : List (List ℕ) → ℕ → ℕ → Type 0
 IsVehicleWith routes n v = (1 ≤ v → has (route_of routes v) n ≡ true) × (v ≡ 0 → has_stop routes n ≡ false)
 

@@ -44,7 +44,7 @@ found_at v o a = record { vehicle = v; opens = o; addition = a }
 abbrev pub added_distance : Instance → List (List ℕ) → Request → Insertion → ℤ
 added_distance p routes r x = pos (route_length p (inserted r x.1 x.2 (route_of routes x.0))) -ℤ pos (route_length p (route_of routes x.0))
 
--- an insertion with this added distance, which opens a vehicle or not, costs less than the limit
+-- an insertion that adds the distance d, and opens a vehicle exactly if o is true, costs less than the limit
 abbrev pub IsWithin : Limit → Bool → ℤ → Type 0
 IsWithin l o d = ((o ≡ false) × (l.opens ≡ true)) ⊎ ((o ≡ l.opens) × (d <ℤ l.below))
 
@@ -169,7 +169,7 @@ IsLooseBound v l best below = (u : ℕ) → v ≤ u → (b : ℤ) → bound_of u
 abbrev pub IsBelowMaximum : Option Candidate → Type 0
 IsBelowMaximum best = IfSome best (λ f. f.addition.distance <ℤ pos 9223372036854775807)
 
--- the best places below this bound, or the insertion found before
+-- `result` is the insertion at the best places of vehicle v below this bound, or `best` if there are none
 abbrev pub IsBetterBelow : Instance → List ℕ → Request → ℕ → ℕ → Bool → Option Candidate → Option Candidate → Option ℤ → Type 0
 IsBetterBelow p route r kept v o best result None = result ≡ best
 IsBetterBelow p route r kept v o best result (Some below) =

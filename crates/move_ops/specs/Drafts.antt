@@ -33,7 +33,8 @@ base_of d = plan_of (undone d.tours d.log)
 abbrev pub AreIdleAfter : ℕ → List (List ℕ) → Type 0
 AreIdleAfter used_len routes = (v : ℕ) → used_len < v → length (route_of routes v) ≡ 0
 
--- both plans pass, and the tables are those of the problem
+-- the base and the draft pass, and the tables, marks and costs are those of the problem, the pins and the two
+-- plans
 pub record IsDraftOf (p : Instance) (pins : List (List ℕ)) (d : DraftState) : Type 0 where
   pub valid : IsInstance p
   pub base : passes p pins (base_of d) ≡ true

@@ -40,7 +40,7 @@ abbrev pub places_in : Request → ℕ → ℕ → List (ℕ × ℕ)
 places_in (Single s) kept stops = map (λ i. (i, i)) (range_with_len (kept + 1) (stops + 1 - kept))
 places_in (Pair a b) kept stops = flat_map (λ i. map (λ j. (i, j)) (range_with_len (i + 1) (stops + 2 - i))) (range_with_len (kept + 1) (stops + 1 - kept))
 
--- whether the request can have these places in a route of `stops` stops, after the first `kept`
+-- whether the request can have these places in a route of `stops` stops, after its first `kept` stops
 abbrev pub are_places : Request → ℕ → ℕ → ℕ → ℕ → Bool
 are_places (Single s) kept stops i j = nat_lt kept i && (nat_le i (stops + 1) && (i == j))
 are_places (Pair a b) kept stops i j = nat_lt kept i && (nat_lt i j && nat_le j (stops + 2))
@@ -56,7 +56,7 @@ module _ (pins routes : List (List ℕ)) where
       flat_map (λ v. map (λ x. (v, x.0, x.1)) (places_in r (length (route_of pins v)) (length (route_of routes v))))
       (range_with_len 1 (length routes))
 
-  -- whether this is a place of the request after the pins
+  -- whether the request can have this place, which must be after the pin of its vehicle
   abbrev pub is_place_of : Request → Insertion → Bool
   is_place_of r x = nat_le 1 x.0 && (nat_le x.0 (length routes) && are_places r (length (route_of pins x.0)) (length (route_of routes x.0)) x.1 x.2)
 

@@ -30,7 +30,7 @@ BestInsertionsAreUnique =
     (p : Instance) (pins routes : List (List ℕ)) (r : Request) (x y : Insertion) → IsBest p pins routes r x → IsBest p pins routes r y
     → x ≡ y
 
--- law: the list of the insertions has exactly those at which the request can be inserted
+-- law: the list of the insertions has exactly the places at which the request can be inserted
 abbrev pub InsertionsAreFeasible : Type 0
 InsertionsAreFeasible =
     (p : Instance) (pins routes : List (List ℕ)) (name : ℕ) (x : Insertion)

@@ -12,7 +12,7 @@ use Rattle.move_ops.specs.declared.draft.costing.SinglePlace.{SinglePlace}
 use Rattle.move_ops.specs.declared.draft.rearranging.Cut.{Cut}
 use Rattle.move_ops.specs.declared.draft.rearranging.Cuts.{Cuts}
 
--- the vehicle has a route, and the index is below its length
+-- the vehicle has a route, and the index is below the route's length
 pub record IsSinglePlace (routes : List (List ℕ)) (s : SinglePlace) : Type 0 where
   pub from : 1 ≤ s.vehicle
   pub within : s.vehicle ≤ length routes
@@ -29,7 +29,7 @@ pub record IsSinglePlaceOf (p : Instance) (routes : List (List ℕ)) (name : ℕ
 abbrev pub cuts_of : ℕ → ℕ → ℕ → ℕ → Cuts
 cuts_of a a_cut b b_cut = record { first = record { vehicle = a; stops = a_cut }; second = record { vehicle = b; stops = b_cut } }
 
--- the vehicle has a route with at least that many stops
+-- the vehicle has a route with at least `stops` stops
 pub record IsCutOf (routes : List (List ℕ)) (c : Cut) : Type 0 where
   pub from : 1 ≤ c.vehicle
   pub within : c.vehicle ≤ length routes
@@ -43,7 +43,7 @@ distance_via p route k s = distance (place p route k) s + distance s (place p ro
 abbrev pub distance_across : Instance → List ℕ → ℕ → List ℕ → ℕ → ℕ
 distance_across p from k to m = distance (place p from k) (place p to m)
 
--- the cost when legs of the length `before` are replaced by legs of the length `after`
+-- the cost after legs with the total length `before` are replaced by legs with the total length `after`
 pub record IsCostWithLegs (old : Cost) (before after : ℕ) (new : Cost) : Type 0 where
   pub unplanned : new.unplanned ≡ old.unplanned
   pub vehicles : new.vehicles ≡ old.vehicles

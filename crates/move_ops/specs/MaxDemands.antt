@@ -3,7 +3,8 @@ use Rattle.std.specs.Prelude.{◌≡◌, ◌-◌, ℕ, ℤ, List, Some, slice_ge
 use Rattle.slack_tables.specs.Course.{Course}
 use Rattle.slack_tables.specs.FitsNowhere.{IsMaxDemand}
 
--- for each vehicle with a number in the list: a single with a greater demand fits nowhere into its route
+-- for each vehicle with an entry in `max_demands`: a single with a demand above the entry fits nowhere into the
+-- vehicle's route
 pub record AreMaxDemands (courses : List Course) (max_demands : List ℤ) : Type 0 where
   pub each : (k : ℕ) (c : Course) (x : ℤ) → slice_get courses k ≡ Some c → slice_get max_demands k ≡ Some x → IsMaxDemand c x
 

@@ -47,7 +47,7 @@ counterpart (Single s) (Pair c d) n = n
 counterpart (Pair a b) (Single t) n = n
 counterpart (Pair a b) (Pair c d) n = swapped a.number c.number (swapped b.number d.number n)
 
--- both requests can be moved, and each fits the places of the other
+-- both requests can be moved, and both are singles or both are pairs
 abbrev pub are_exchangeable : List (List ℕ) → List (List ℕ) → Request → Request → Bool
 are_exchangeable pins routes r s = is_movable pins routes r && (is_movable pins routes s && have_same_form r s)
 

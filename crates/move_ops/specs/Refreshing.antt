@@ -9,7 +9,7 @@ use Rattle.move_ops.specs.Insertion.{route_of}
 abbrev pub fresh_of : Instance → List (List ℕ) → ℕ → ℕ × Course
 fresh_of p routes v = (v, course_of p (route_of routes v))
 
--- the tables, with these in place of those of their vehicles
+-- the tables after the table of each entry replaces the one of its vehicle
 abbrev pub replaced : List Course → List (ℕ × Course) → List Course
 replaced tables [] = tables
 replaced tables (f ∷ rest) = replaced (slice_set tables (f.0 - 1) f.1) rest

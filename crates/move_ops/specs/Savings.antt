@@ -20,8 +20,8 @@ max_saving_by (Pair a b) = 2
 abbrev pub max_saving : Instance → ℕ → ℕ
 max_saving p name = option_map_or max_saving_by (request_named p name) 0
 
--- the new plan leaves at most `requests` requests fewer out, uses no fewer vehicles, and its distance is less by
--- at most `far`
+-- the new plan has at most `requests` unplanned requests fewer, uses no fewer vehicles, and is shorter by at
+-- most `far`
 pub record SavesAtMost (requests far : ℕ) (old new : Cost) : Type 0 where
   pub unplanned : old.unplanned ≤ new.unplanned + requests
   pub vehicles : old.vehicles ≤ new.vehicles

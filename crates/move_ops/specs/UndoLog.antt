@@ -18,7 +18,7 @@ AreOnce (e ∷ rest) = (is_logged rest e.0 ≡ false) × AreOnce rest
 abbrev pub IsEntry : List (ℕ × Course) → ℕ → ℕ → Type 0
 IsEntry log v k = (c : Course) × (slice_get log k ≡ Some (v, c))
 
--- the vehicle has this route now, and the rest of the draft is unchanged
+-- the vehicle has this route now; the other tours, the base, its cost and the pinned stops are unchanged
 pub record HasRoute (p : Instance) (old new : DraftState) (vehicle : ℕ) (route : List ℕ) : Type 0 where
   pub tours : new.tours ≡ slice_set old.tours (vehicle - 1) (course_of p route)
   pub stops : course_route (course_of p route) ≡ route

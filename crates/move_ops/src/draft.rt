@@ -8,9 +8,9 @@
 //!
 //! Besides the routes, the draft keeps the following data, so that the time of a step does not grow with the
 //! fleet:
-//! - `used_len`: the length of the used part of the plan. No vehicle after it has a stop. Best insertions look at
-//!   these vehicles and at the next one, which stands for all idle vehicles. A request that opens a vehicle
-//!   takes the first idle one, so few vehicles of the used part are empty;
+//! - `used_len`: the length of the used part of the plan. No vehicle after it has a stop. Best insertions look
+//!   at the vehicles of the used part and at the next one, which stands for all idle vehicles. A request that
+//!   opens a vehicle takes the first idle one, so few vehicles of the used part are empty;
 //! - `vehicle_hints`: for each stop, the vehicle to look at first. 0 says that no route has the stop, which is
 //!   an invariant. Any other number is a hint that may be stale, so it is checked;
 //! - `max_demands`: for each vehicle, the greatest demand that a single may have. A single with a greater
@@ -54,7 +54,7 @@ use std::alloc::Global;
 use std::marker::Model;
 
 /// A base plan, and a draft made from it by changes in place. The moves change the draft, which is then
-/// discarded or becomes the base. Neither allocates.
+/// discarded or becomes the base. Neither can fail for lack of memory.
 #[derive(Debug, Drop)]
 pub struct Draft {
     tours: Vec<Tour>,
@@ -125,7 +125,7 @@ impl Draft {
         })
     }
 
-    /// Makes the draft the new base. Does not allocate.
+    /// Makes the draft the new base. Cannot fail.
     pub fn accept(&mut self)
         ensures base { base_of self.new ≡ draft_of self.old }
         ensures draft { draft_of self.new ≡ draft_of self.old }
@@ -137,7 +137,7 @@ impl Draft {
         self.used_len = used_len_of(&self.tours, self.used_len);
     }
 
-    /// Makes the draft the base again. Does not allocate.
+    /// Undoes all changes, so that the draft is the base again. Cannot fail.
     pub fn discard(&mut self)
         ensures base { base_of self.new ≡ base_of self.old }
         ensures draft { draft_of self.new ≡ base_of self.old }
@@ -197,7 +197,7 @@ impl Draft {
     }
 
     /// Returns how many vehicles a best insertion looks at: the used part and, if there is one, the next
-    /// vehicle. That one has no stops and stands for all after it.
+    /// vehicle. The next vehicle has no stops and stands for all later ones.
     pub(crate) fn scan_len(&self) -> usize
         ensures within { result ≤ length self.now.tours }
         ensures scan_len { IsScanLen (draft_of self.now) result }
@@ -209,7 +209,7 @@ impl Draft {
         vehicles
     }
 
-    /// Returns whether a stop of the request is in the draft and none is pinned.
+    /// Returns whether a stop of the request is in the draft and no stop of the request is pinned.
     pub fn is_movable(&self, problem: &Problem, pins: &Pins, request: &Request) -> bool
         requires { IsDraftOf problem.now pins.now.routes self.now }
         ensures { result ≡ is_movable pins.now.routes (draft_of self.now) request.now }
@@ -286,22 +286,22 @@ impl Draft {
         self.cost
     }
 
-    /// Returns whether the draft is known to be the base, without comparing the two. Returns `true` if nothing
-    /// was changed since; after a change and its reversal it may return `false`.
+    /// Returns whether the draft is known to be the base, without comparing the two: whether the log is empty.
+    /// After a change and its reversal this may be `false`.
     pub fn is_base(&self) -> bool
         ensures { IsTrue result → draft_of self.now ≡ base_of self.now }
     {
         !self.is_changed()
     }
 
-    // Returns whether the draft was changed since it was the base.
+    // Returns whether the log has a changed vehicle.
     fn is_changed(&self) -> bool
         ensures { result ≡ not (length self.now.log == 0) }
     {
         !self.log.is_empty()
     }
 
-    // Replaces the tour of a vehicle. Does not allocate, since the log has room for each vehicle.
+    // Replaces the tour of a vehicle. Cannot fail, since the log has room for each vehicle.
     fn set_tour(&mut self, vehicle: u32, tour: Tour)
         requires from_one { 1 ≤ vehicle }
         requires within { vehicle ≤ length self.old.tours }
@@ -323,7 +323,7 @@ impl Draft {
         }
     }
 
-    // Returns the index of the vehicle's entry in the log, if it was changed since the base.
+    // Returns the index of the vehicle's entry in the log, or `None` if the log has no such entry.
     fn entry_of(&self, vehicle: u32) -> Option<usize>
         ensures { MatchOption result (is_logged self.now.log vehicle ≡ false)
             (λ entry. IsEntry self.now.log vehicle entry) }
@@ -336,7 +336,7 @@ impl Draft {
         None
     }
 
-    // Restores the tour of the base for the vehicle of a log entry.
+    // Removes an entry from the log and restores the entry's tour, which its vehicle had in the base.
     fn undo(&mut self, entry: usize)
         requires { entry < length self.old.log }
         ensures tours { (e : ℕ × Course) → slice_get self.old.log entry ≡ Some e
@@ -369,7 +369,7 @@ fn remove_entry(log: &mut Vec<(u32, Tour)>, entry: usize) -> (u32, Tour)
     log.remove(entry)
 }
 
-// Clears a log and keeps the memory of its tours as far as there is room.
+// Clears a log and keeps the memory of its tours as far as `spare` can grow.
 fn clear_log(log: &mut Vec<(u32, Tour)>, spare: &mut Vec<Tour>)
     ensures none { log.new.items ≡ [] }
     ensures room { vec_capacity log.new ≡ vec_capacity log.old }
@@ -379,7 +379,7 @@ fn clear_log(log: &mut Vec<(u32, Tour)>, spare: &mut Vec<Tour>)
     }
 }
 
-// Returns the length of the used part when this vehicle has another route.
+// Returns the length of the used part after `vehicle` gets another route.
 fn used_len_with(used_len: usize, vehicle: u32) -> usize
     ensures used_len { used_len ≤ result }
     ensures vehicle { vehicle ≤ result }
@@ -392,7 +392,7 @@ fn used_len_with(used_len: usize, vehicle: u32) -> usize
     used_len
 }
 
-// Keeps the memory of a tour if there is room for it.
+// Keeps the memory of a tour in `spare`, or frees it if `spare` cannot grow.
 fn keep(spare: &mut Vec<Tour>, tour: Tour) {
     spare.push(tour).ok();
 }

@@ -4,7 +4,7 @@ ghost use Rattle.plan_types.specs.Instance.{IsInstance};
 
 use plan_types::Problem;
 
-/// States that the problem keeps its limits.
+/// States that the problem is valid (`IsInstance`).
 pub(crate) fn problem_keeps_limits(problem: &Problem)
     ensures { IsInstance problem.now }
 {

@@ -5,7 +5,7 @@ ghost use Rattle.move_ops.specs.Insertion.{inserted, are_places};
 
 use plan_types::{OutOfMemory, Request};
 
-/// Returns whether the request can have these places in a route of `stops` stops, after the first `kept`.
+/// Returns whether the request can have these places in a route of `stops` stops, after its first `kept` stops.
 pub(crate) fn are_places(
     request: &Request,
     kept: u64,

@@ -1,5 +1,5 @@
-//! Laws of the best insertion. It is the first one by a test that compares costs and then places. A removed
-//! request always has one, since it fits where it was.
+//! Laws of the best insertion. The best insertion is the first one by cost and then by place. A removed request
+//! always has a best insertion, since the request fits where it was.
 ghost use Rattle.move_ops.specs.Choosing.{InsertionLaws};
 ghost use Rattle.move_ops.specs.Savings.{PlacementsSaveLittle};
 ghost use Rattle.move_ops.specs.Laws.{BestInsertionsAreLeast, BestInsertionsAreUnique, InsertionsAreFeasible, LimitsAreRules, PlansPassWithoutPins, RelocationsNeverCostMore, RequestsKeepTheirPlaces};
@@ -15,8 +15,8 @@ use plan_types::{
 };
 
 /// States that the best insertion of a request is one of its insertions. No other costs less, and none of equal
-/// cost has an earlier vehicle, pickup place or delivery place, compared in this order. There is none exactly
-/// when the request has no insertion.
+/// cost has an earlier vehicle, pickup place or delivery place, compared in this order. There is no best
+/// insertion exactly when the request has no insertion.
 pub fn best_insertions_are_least()
     ensures { BestInsertionsAreLeast }
 {
@@ -62,9 +62,9 @@ pub fn relocations_never_cost_more()
     costs_are_totally_ordered();
 }
 
-/// States that inserting a request at its best place leaves at most one request fewer unplanned, uses no fewer
-/// vehicles, and saves at most a distance of 1 for each of its stops. This gives a lower bound of a plan's cost
-/// after more requests are inserted.
+/// States that inserting a request at its best place saves at most one unplanned request, no vehicle, and a
+/// distance of at most 1 for each of its stops. This gives a lower bound of a plan's cost after more requests
+/// are inserted.
 pub fn placements_save_little()
     ensures { PlacementsSaveLittle }
 {
@@ -84,8 +84,8 @@ pub fn plans_pass_without_pins()
 }
 
 /// States that the limits that tables check are the auditor's rules on load and time. A route keeps them
-/// exactly when it breaks none of these rules as the only route: no load above the capacity, no service after
-/// its latest time, and the vehicle back by the depot's.
+/// exactly when it breaks none of these rules as the only route: no load is above the capacity, no service
+/// starts after its latest time, and the vehicle returns by the depot's latest time.
 pub fn limits_are_rules()
     ensures { LimitsAreRules }
 {}

@@ -17,7 +17,7 @@
 //! - `vehicle_hints`, `naming`: the vehicle to look at first for a stop, marks at the stops of routes, and the
 //!   request of a name.
 //! - `max_demands`: the greatest demand that a single may have in each vehicle.
-//! - `facts`: a fact about a problem for callers that only pass it on.
+//! - `facts`: the invariant of a problem, for functions that only pass the problem on.
 //! - `tables`: the best insertion.
 //! - `laws`: laws of best insertions, without code.
 //!

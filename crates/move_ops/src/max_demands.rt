@@ -32,7 +32,7 @@ pub(crate) fn set_max_demand(max_demands: &mut Vec<i64>, vehicle: u32, tour: &To
     }
 }
 
-/// Returns whether the vehicle with this index is known to be too full for the request. It is never known for a
+/// Returns whether the vehicle with this index is known to be too full for the request. Always false for a
 /// pair.
 #[inline(always)]
 pub(crate) fn is_full(max_demands: &[i64], index: usize, request: &Request) -> bool

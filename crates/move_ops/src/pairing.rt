@@ -49,7 +49,7 @@ fn picks_up_first(problem: &Problem, route: &[u32]) -> bool
     true
 }
 
-// Returns whether these stops have the pickup of a delivery.
+// Returns whether the pickup of `delivery` is among `stops`. False if `delivery` is not a delivery.
 fn has_pickup(problem: &Problem, stops: &[u32], delivery: u32) -> bool
     ensures { result ≡ option_map_or (has stops.now) (pickup_at problem.now delivery) false }
 {

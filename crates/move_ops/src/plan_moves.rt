@@ -14,8 +14,8 @@ use std::alloc::Global;
 /// Inserts a request into the route of vehicle `v`. In the new route the pickup is at place `i` and the delivery
 /// at place `j`, with `i < j`; a single has `j = i`. Vehicles and places count from 1.
 ///
-/// Returns `None` if the name is not of a current, unplanned request, if these are no places after the pin of
-/// `v`, or if the result does not pass.
+/// Returns `None` if the name is not of a current, unplanned request, if these are not valid places after the
+/// pin of `v`, or if the result does not pass.
 pub fn insert_at(
     alloc: Global,
     problem: &Problem,
@@ -34,8 +34,8 @@ pub fn insert_at(
 }
 
 /// Returns the best insertion of a request into the plan: the vehicle, the pickup's place and the delivery's
-/// place for which the result passes and costs the least. Of equal costs it is the first by vehicle, then by
-/// pickup place, then by delivery place. All count from 1, and a single has its place twice.
+/// place for which the result passes and costs the least. Among insertions of equal cost it is the first by
+/// vehicle, then by pickup place, then by delivery place. All count from 1, and a single has its place twice.
 ///
 /// Returns `None` if the request has no insertion, or if the name is not of a current, unplanned request.
 pub fn best_insertion(
@@ -77,8 +77,8 @@ pub fn remove(
     plan_if(alloc, &draft, made)
 }
 
-/// Exchanges two requests: each pickup takes the place of the other's pickup, each delivery that of the other's
-/// delivery.
+/// Exchanges two requests: each pickup takes the place of the other's pickup, and each delivery the place of
+/// the other's delivery.
 ///
 /// Returns `None` if the names are equal, if one of them is not of a current, planned request, if one of the
 /// requests has a pinned stop, if one is a single and the other a pair, or if the result does not pass.
@@ -102,8 +102,8 @@ pub fn exchange(
 /// Exchanges the ends of two routes. The route of `a` becomes its first `a_cut` stops followed by the route of
 /// `b` after its first `b_cut` stops, and the other way round. Vehicles count from 1.
 ///
-/// Returns `None` if the vehicles are not two different ones, if a cut is less than the length of the pin or
-/// more than that of the route, or if the result does not pass.
+/// Returns `None` if the vehicles are equal or one does not exist, if a cut is less than the length of the pin
+/// or more than that of the route, or if the result does not pass.
 pub fn two_opt_star(
     alloc: Global,
     problem: &Problem,

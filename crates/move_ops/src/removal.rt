@@ -42,7 +42,7 @@ fn marks_of(names: &[u32]) -> [bool; MARKS]
     marks
 }
 
-// Returns whether the stop is of one of the named requests. Most stops are not, and then the mark says so
+// Returns whether the stop is of one of the named requests. Most stops are not, and usually the mark shows this
 // without a search in `names`.
 fn is_of_named(problem: &Problem, names: &[u32], marks: &[bool; MARKS], stop: u32) -> bool
     requires len { length marks.now ≡ MARKS }

@@ -5,8 +5,8 @@ ghost use Rattle.move_ops.specs.Savings.{max_saving};
 use crate::naming::request_named;
 use plan_types::{Problem, Request};
 
-/// Returns how much of the distance the request with this name can save at most when it is inserted: distances
-/// are rounded, so a detour may be shorter than the straight leg. Returns 0 if no current request has the name.
+/// Returns the greatest distance that inserting the request with this name can save: distances are rounded, so
+/// a detour may be shorter than the straight leg. Returns 0 if no current request has the name.
 pub fn max_saving(problem: &Problem, name: u32) -> u64
     ensures { result ≡ max_saving problem.now name }
 {

@@ -17,7 +17,7 @@ pub(crate) fn have_same_form(first: &Request, second: &Request) -> bool
     }
 }
 
-/// Returns the route with each stop of one request replaced by that of the other.
+/// Returns the route with each stop of one request replaced by its counterpart in the other.
 pub(crate) fn counterparts(
     alloc: Global,
     route: &[u32],
@@ -33,7 +33,7 @@ pub(crate) fn counterparts(
     Ok(new)
 }
 
-// Returns the stop that takes this one's place.
+// Returns the stop that takes the place of `stop`. It is `stop` itself if `stop` belongs to neither request.
 fn counterpart(first: &Request, second: &Request, stop: u32) -> u32
     ensures { result ≡ counterpart first.now second.now stop }
 {

@@ -3,11 +3,12 @@
 //! The search goes from vehicle to vehicle and keeps the best insertion so far. It compares costs by whether a
 //! vehicle is opened, then by the added distance, then by vehicle and places. The vehicles that a draft has
 //! changed are looked at first: a removed request mostly fits best where it was, and then most other vehicles
-//! are ruled out. Since they come out of order, an equal distance at a vehicle with a lower number is better,
-//! too.
+//! are ruled out. Since these vehicles come out of order, a later insertion with an equal distance is better if
+//! its vehicle has a lower number.
 //!
-//! Before the first insertion is found, a limit takes its place: an insertion that does not cost less is
-//! ignored. The limit is compared in the same way, so what is found is the best of all insertions.
+//! Before the first insertion is found, a limit takes the place of the best one so far: an insertion that does
+//! not cost less than the limit is ignored. The limit is compared in the same way as an insertion. So if an
+//! insertion is found, it is the best of all.
 //!
 //! Tables need a plan that passes with no pins, so `build` and `refresh` take none. The law
 //! `plans_pass_without_pins` shows that a plan which passes with its own pins is such a plan.
@@ -95,7 +96,8 @@ pub(crate) struct Vehicles<'a> {
     pub tables: &'a [Tour],
     /// The greatest demand that a single may have in each vehicle, as far as it is known.
     pub max_demands: &'a [i64],
-    /// The number of vehicles to look at. If there are more, an idle one stands for all of those.
+    /// The number of vehicles to look at. All later vehicles are idle. If there are any, one of the first `end`
+    /// is idle, too, and stands for them.
     pub end: usize,
     /// The vehicles to look at first.
     pub first: &'a [(u32, Tour)],
@@ -245,9 +247,9 @@ pub(crate) fn best_within(
     }
 }
 
-// Searches with or without a list of greatest demands. It is inlined twice, so that the loop over the vehicles
-// does not check again whether the request is a single. Empty vehicles are alike, so the first of them stands
-// for all. If there are no vehicles after `end`, the loop ends there.
+// Returns the best insertion if it costs less than the limit. `max_demands` is empty for a pair. The function
+// is inlined twice, so that the loop over the vehicles does not check again whether the request is a single.
+// Empty vehicles are alike, so the first of them stands for all, also for those after `end`.
 #[inline(always)]
 fn best_by_max_demands(
     terms: &InsertionContext,
@@ -332,8 +334,9 @@ fn best_of_first(
 }
 
 // Looks for a better insertion at this vehicle, unless the vehicle is one of `first`, which were looked at
-// before. Returns the bound below which the added distance has to be at a later used vehicle. This bound is one
-// number, since for most vehicles the only question is whether it rules them out.
+// before. Returns a bound for the used vehicles from this one on: an insertion that adds at least this bound is
+// not better. One number serves all these vehicles, since mostly the only question is whether it rules a
+// vehicle out.
 #[inline(always)]
 fn scan_vehicle(
     terms: &InsertionContext,
@@ -413,7 +416,8 @@ fn is_among(first: &[(u32, Tour)], vehicle: u64) -> bool
     false
 }
 
-// Returns whether inserting a request into this route opens a vehicle.
+// Returns whether inserting a request into this route opens a vehicle. Always false if vehicles do not count
+// (`Vrp`).
 #[inline(always)]
 fn opens(kind: Kind, table: &Tour) -> bool
     ensures { result ≡ opens kind (course_route table.now) }
@@ -424,8 +428,8 @@ fn opens(kind: Kind, table: &Tour) -> bool
     }
 }
 
-// Returns the bound below which the added distance of an insertion at this vehicle has to be. The insertion
-// then beats the best so far, or keeps the limit.
+// Returns the bound below which the added distance of an insertion at this vehicle has to be, for the insertion
+// to be better than the best so far or, if none was found yet, than the limit. Returns `None` if it can't be.
 #[inline(always)]
 fn bound(vehicle: u64, opens: bool, limit: &Limit, best: &Option<Candidate>) -> Option<i64>
     requires { IsBelowMaximum best.now }
@@ -438,7 +442,8 @@ fn bound(vehicle: u64, opens: bool, limit: &Limit, best: &Option<Candidate>) -> 
 }
 
 // Returns the bound below which the added distance of an insertion has to be, for the insertion to be better
-// than a rival that adds `distance`, or `None` if it can't be. Each of the two may open a vehicle.
+// than a rival that adds `distance`, or `None` if it can't be. `opens` and `rival_opens` say whether each of
+// the two opens a vehicle.
 #[inline(always)]
 fn bound_over(rival_opens: bool, distance: i64, opens: bool) -> Option<i64>
     ensures { result ≡ bound_over rival_opens distance opens }

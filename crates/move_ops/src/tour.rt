@@ -51,8 +51,8 @@ impl Tour {
         Ok(Tour { stops, table })
     }
 
-    /// Builds the tour of another route in the memory of this one, as far as that suffices. It is fastest if
-    /// `near` has most of the stops in the same order.
+    /// Builds the tour of another route in the memory of this one, as far as that suffices. This is fastest if
+    /// `near` has most stops of `route` in the same order.
     pub(crate) fn into_rebuilt(
         self,
         problem: &Problem,
@@ -75,8 +75,8 @@ impl Tour {
         Ok(Tour { stops, table })
     }
 
-    /// Returns whether a route is feasible by itself. It is fastest if this tour has most of the stops in the
-    /// same order.
+    /// Returns whether a route is feasible by itself. This is fastest if this tour has most stops of `route` in
+    /// the same order.
     pub(crate) fn is_feasible(&self, problem: &Problem, route: &[u32]) -> bool
         requires course { IsCourseIn problem.now self.now }
         requires once { AreDistinctStops problem.now route.now }
@@ -88,7 +88,7 @@ impl Tour {
 
     /// Builds the tour of another route in the memory of this one, as far as that suffices. Returns `None` if
     /// the route is not feasible by itself. The caller guarantees that its pairs are whole, each pickup before
-    /// its delivery. It is fastest if `near` has most of the stops in the same order.
+    /// its delivery. This is fastest if `near` has most stops of `route` in the same order.
     pub(crate) fn into_rebuilt_if_feasible(
         self,
         problem: &Problem,

@@ -37,7 +37,7 @@ module _ (p : Instance) (c : Course) (places : List PlaceSlack) (table : AreKnow
   long : length places ≡ length (course_route c) + 2
   long = let places_long = table.long in omega (arith, long-on p (course_route c) c is)
 
-  -- the best insertion, if the table yields the distance that each place adds
+  -- the result is the best insertion, if `adds` returns the distance that an insertion at each place adds
   best-is : (r : Request) (Puts : PricedInsertion → Type 0) (adds : ℕ → ℕ → Option ℤ)
       → ((i j : ℕ) → ArePlaces r (length (course_route c)) i j → IsAdded p (course_route c) (inserted r i j (course_route c)) (adds i j))
       → ((a : PricedInsertion) → Puts a → ArePlaces r (length (course_route c)) a.pickup a.delivery × (kept < a.pickup) × (adds a.pickup a.delivery ≡ Some a.distance))

@@ -45,7 +45,7 @@ module _ (c : Course) (places : List PlaceSlack) (table : AreKnown c places) (b 
     front-in : In (limits_of c) b m
     front-in = kept-same (stop_on c) b m front c.kind c.capacity (kept-fewer (limits_of c) (stop_on c) m (length c.stops + 1) (omega arith) table.limits)
 
-  -- a stop at place j of the new route, then place n of the table and all later ones
+  -- the route continues with a stop at place j, then with place n of the table and all later places
   rest-is : (j n l : ℕ) (d : PlaceSlack) (at : Progress) (s : Stop) → 1 ≤ j → n ≤ length c.stops + 1 → l ≡ j + 1 + (length c.stops + 1 - n)
       → b j ≡ s → ((k : ℕ) → b (j + 1 + k) ≡ stop_on c (n + k)) → IsAt b (j - 1) at → In (limits_of c) b (j - 1)
       → IsEnd l (with_stop (limits_of c) at s (get_or places n d))
@@ -67,7 +67,7 @@ module _ (c : Course) (places : List PlaceSlack) (table : AreKnown c places) (b 
       rest-is i i (length c.stops + 2) d (get_or places (i - 1) d).at s one most (omega arith) here following
       (front-at (i - 1) front (omega arith) d) (front-in (i - 1) front (omega arith))
 
-  -- the pickup at place i, then n places of the table
+  -- the trip through a pickup at place i and then n places of the table
   walked-is : (i n : ℕ) (p : Stop) (d : PlaceSlack) → 1 ≤ i → i + n ≤ length c.stops + 1 → ((k : ℕ) → k ≤ i - 1 → b k ≡ stop_on c k) → b i ≡ p
       → ((k : ℕ) → k < n → b (i + 1 + k) ≡ stop_on c (i + k)) → WalkIs (limits_of c) b (i + n) (walked (limits_of c) places p i d n)
   unfolding WalkIs

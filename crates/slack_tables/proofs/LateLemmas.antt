@@ -1,4 +1,4 @@
--- A vehicle that reaches a place after a stop's latest time reaches this stop at no later place in time.
+-- A vehicle that reaches a place after a stop's latest time cannot reach that stop in time at any later place.
 use Rattle.std.proofs.Common.{◌≡◌, ℕ, zero, suc, ◌+◌, ◌-◌, ◌<◌, ◌≤◌, true, false, cond, List, get_or, length, Some, None, refl, sym, ap, ◌∙◌, arith, subst}
 use Rattle.std.proofs.lemmas.Bool.{leb-true, leb-false, and_parts, and_right, false_from_ne_true}
 use Rattle.std.proofs.lemmas.Option.{cond_some, option_and_then_some}

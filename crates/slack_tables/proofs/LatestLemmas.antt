@@ -61,7 +61,7 @@ module _ (kind : Kind) (at : ℕ → Stop) (last : ℕ) where
   unfoldable pub IsBound : ℕ → ℕ → Type 0
   IsBound i limit = (t : ℕ) → t ≤ 2 ^ 60 → MeetsLaterWindowsAlong kind at last i t ↔ (t ≤ limit)
 
-  -- after the last place nothing is missed
+  -- the bound at a place, from the bound at the next place
   pub bound-before : (i limit start : ℕ) → kind ≡ LiLim → i < last → IsBound (i + 1) limit → (at (i + 1)).earliest ≤ start
       → start ≤ limit → start ≤ (at (i + 1)).latest → (at (i + 1)).latest ≤ 100000000 → stay at i ≤ start
       → IsBound i (min limit (at (i + 1)).latest - stay at i)

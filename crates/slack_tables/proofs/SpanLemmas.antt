@@ -52,7 +52,7 @@ ways-le x y e reach =
       along-le 213 142 x y ((x * 213 + y * 142) / 256) e (omega arith) (omega arith) reach,
     )
 
--- the bound along both directions, with the longer side first
+-- the bound on the sum of the squared sides also holds if the sides are ordered by length
 pub sides-le : (x y long short e : ℕ) → (x < y → (long ≡ y) × (short ≡ x)) → (y ≤ x → (long ≡ x) × (short ≡ y))
     → x * x + y * y ≤ e * (e + 1) → long * long + short * short ≤ e * (e + 1)
 sides-le x y long short e up between_stops reach = by (cases_lt x y)
@@ -225,7 +225,7 @@ far-single limits places depot s kept below d span is at_home dear =
     let back = distance-back s (get_or places i d).at.stop in
     omega (arith, ints)))
 
--- the load of a served stop fits
+-- if a stop can be inserted, the greatest load after it is within the capacity
 borne : (limits : Limits) (r : Ride) (service to : ℕ) (s : Stop) (from : ℕ) (tail : PlaceSlack) (x : ℤ)
     → price_if_feasible limits r service to s from tail ≡ Some x
     → (r.load +ℤ s.demand +ℤ tail.at.stop.demand -ℤ tail.at.load +ℤ tail.max_load) ≤ℤ pos limits.capacity

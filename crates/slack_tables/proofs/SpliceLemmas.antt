@@ -131,7 +131,8 @@ module _ (limits : Limits) (a b : ℕ → Stop) (n s rest : ℕ) (same : (k : �
   same-here : b s ≡ a n
   same-here = let p : s + 0 ≡ s = omega arith in let q : n + 0 ≡ n = omega arith in subst (λ k. b k ≡ a n) p (subst (λ k. b (s + 0) ≡ a k) q (same 0))
 
-  -- the loads in the rest are the old ones plus a difference
+  -- the loads in the rest are the old loads plus a difference, so they are at most c exactly if the old ones
+  -- are at most e
   loads-true : (c e : ℤ) → e ≡ c -ℤ (load_along b s -ℤ load_along a n) → ((m : ℕ) → n ≤ m → m ≤ n + rest → load_along a m ≤ℤ e)
       → (k : ℕ) → s ≤ k → k ≤ s + rest → load_along b k ≤ℤ c
   loads-true c e is old k h l =
@@ -165,7 +166,7 @@ module _ (limits : Limits) (a b : ℕ → Stop) (n s rest : ℕ) (same : (k : �
       subst (λ i. moved_along a n (start_along b s) i ≤ (a i).latest) (sym (omega arith)) le'
 
   module _ (tail : PlaceSlack) (known : IsKnown limits.kind a (n + rest) n tail) (late : (a n).latest ≤ 100000000) where
-    -- the load and the time at place s, by the table's values at place n
+    -- the rest keeps the limits exactly if the table's values at place n allow the load and the time at place s
     bears-true : (at : Progress) → IsAt b s at → Keeps limits b s → tail_is_within_limits limits (ride_of at) tail ≡ true → (k : ℕ) → s < k → k ≤ s + rest → Keeps limits b k
     bears-true at is here h k m l =
         let both = and_parts _ _ h in

@@ -118,7 +118,8 @@ module _ (limits : Limits) (places : List PlaceSlack) (d : PlaceSlack) (lilim : 
 
 -- ---- the checks in the code
 module _ (limits : Limits) (places : List PlaceSlack) (p : Stop) (i : ℕ) (are : AreTight limits.kind places) (law : DetoursSaveAtMostOne) where
-  -- no pair fits with its pickup before a place that must start before the pickup's window opens
+  -- no pair fits with its pickup at place i if service at that place of the table must start more than 1 before
+  -- the pickup's window opens
   pub closed-due : (e : PlaceSlack) → ((d : PlaceSlack) → e ≡ get_or places i d) → has_deadline_before limits.kind e p.earliest ≡ true → IsClosed limits places p i
   closed-due e is early = by limits.kind refl
     where
@@ -179,7 +180,7 @@ closed-more limits places p m n are is = λ i following before. by i following b
     by i following before (inl less) = are i following less
     by i following before (inr last) = let same : n ≡ i = omega arith in subst (IsClosed limits places p) same is
 
--- no pair fits with its pickup after a place that starts after the pickup's latest time
+-- no pair fits with its pickup after a place where service starts after the pickup's latest time
 pub closed-past : (limits : Limits) (places : List PlaceSlack) (p : Stop) (i : ℕ) (e : PlaceSlack) → AreAscending places → 1 ≤ i
     → ((d : PlaceSlack) → e ≡ get_or places (i - 1) d) → is_in_time limits.kind e.at.start p.latest ≡ false
     → AreClosed limits places p (i - 1) (length places)

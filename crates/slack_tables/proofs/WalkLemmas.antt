@@ -43,7 +43,7 @@ cond_map : {A B : Type 0} (b : Bool) (f : A → B) (o : Option A) (y : B) → So
 cond_map true f o y is = let from = option_map-some f o y is in (refl, from.0, from.1, from.2)
 cond_map false f o y is = absurd (none-some y (sym is))
 
--- if each value leads to none, so does the option
+-- if f maps the value in o, if any, to `None`, then the result is `None`
 pub and_then-none : {A B : Type 0} (f : A → Option B) (o : Option A) → ((x : A) → o ≡ Some x → f x ≡ None) → option_and_then f o ≡ None
 and_then-none f None each = refl
 and_then-none f (Some x) each = each x refl

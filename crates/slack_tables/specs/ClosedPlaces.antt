@@ -12,7 +12,7 @@ use Rattle.slack_tables.specs.declared.progress.PlaceSlack.{PlaceSlack}
 abbrev pub deadline_of : PlaceSlack → ℕ
 deadline_of e = min e.latest_start e.at.stop.latest
 
--- a vehicle that is at a place after its latest start is too late for the next place
+-- a vehicle that starts service at a place after the place's `latest_start` is too late for the next place
 abbrev pub AreTight : Kind → List PlaceSlack → Type 0
 AreTight kind places =
     kind ≡ LiLim → (k : ℕ) (d : PlaceSlack) → k + 1 < length places
@@ -28,7 +28,7 @@ IsClosed limits places p i = (q : Stop) (j : ℕ) (d : PlaceSlack) → i < j →
 abbrev pub AreClosed : Limits → List PlaceSlack → Stop → ℕ → ℕ → Type 0
 AreClosed limits places p m n = (i : ℕ) → m < i → i < n → IsClosed limits places p i
 
--- whether service at a place must start more than 1 before a window opens
+-- whether service at a place must start more than 1 before `earliest`
 abbrev pub has_deadline_before : Kind → PlaceSlack → ℕ → Bool
 has_deadline_before LiLim e earliest = nat_lt (deadline_of e + 1) earliest
 has_deadline_before Vrp e earliest = false

@@ -19,7 +19,8 @@ driven_on from s = ride_at (driven (ride_of from) from.stop.service (distance fr
 abbrev pub stepped : Limits → Progress → Stop → Option Progress
 stepped limits from s = if is_within_limits limits (ride_of (driven_on from s)) s then Some (driven_on from s) else None
 
--- the state after a pickup inserted after place i - 1 of the old route, and then its next n places
+-- the state after a pickup inserted after place i - 1 of the old route, and then after the next n places of
+-- that route
 abbrev pub walked : Limits → List PlaceSlack → Stop → ℕ → PlaceSlack → ℕ → Option Progress
 walked limits places p i d zero = stepped limits (slice_index_or places (i - 1) d).at p
 walked limits places p i d (suc n) = option_and_then (λ at. stepped limits at (slice_index_or places (i + n) d).at.stop) (walked limits places p i d n)

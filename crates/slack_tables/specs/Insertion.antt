@@ -26,7 +26,7 @@ ArePlaces (Single s) n i j = (1 ≤ i) × (i ≤ n + 1) × (j ≡ i)
 ArePlaces (Pair p d) n i j = (1 ≤ i) × (i < j) × (j ≤ n + 2)
 
 -- the load after each stop is at most the capacity; with time windows, each service starts by the stop's latest
--- time, and the vehicle returns by the depot's
+-- time, and the vehicle returns by the depot's latest time
 pub record KeepsLimits (p : Instance) (route : List ℕ) : Type 0 where
   pub load : (i : ℕ) → 1 ≤ i → i ≤ length route → load p route i ≤ℤ pos p.capacity
   pub window : p.kind ≡ LiLim → (i : ℕ) → 1 ≤ i → i ≤ length route → start p route i ≤ (place p route i).latest

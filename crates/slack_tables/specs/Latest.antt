@@ -7,7 +7,8 @@ use Rattle.route_sched.specs.Route.{place}
 use Rattle.route_sched.specs.Schedule.{time_between, greatest}
 
 -- the start of service at place k if service at place i starts at time t: the greatest, over all places j from
--- i to k, of the time from j to k plus the earliest time at j, which is t for j = i
+-- i to k, of the earliest time at j plus the time from j to k; for j = i, t is used instead of the earliest
+-- time
 unfoldable pub moved_start : Instance → List ℕ → ℕ → ℕ → ℕ → ℕ
 moved_start p route i t k = greatest (map (λ j. (if j == i then t else (place p route j).earliest) + time_between p route j k) (range_with_len i (k + 1 - i)))
 

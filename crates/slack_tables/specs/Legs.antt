@@ -5,7 +5,7 @@ use Rattle.nint_dist.specs.Distance.{distance}
 use Rattle.slack_tables.specs.declared.progress.PlaceSlack.{PlaceSlack}
 use Rattle.slack_tables.specs.declared.ride.Detour.{Detour}
 
--- the distance at each place is that at the previous one plus the leg between them
+-- the distance at each place is the distance at the previous place plus the leg between the two places
 abbrev pub AreLinked : List PlaceSlack → Type 0
 AreLinked places =
     (k : ℕ) (d : PlaceSlack) → k + 1 < length places
@@ -23,12 +23,13 @@ detour_of places s m d =
     + distance (slice_index_or places (m + 1) d).at.stop s)
     -ℤ pos (slice_index_or places (m + 1) d).at.distance
 
--- from place `first` on, the number of place k is a lower bound on all detours from k on
+-- for each place k from `first` on, the entry of `least` at index k is a lower bound on all detours from place
+-- k on
 pub record AreLeastDetours (first : ℕ) (least : List ℤ) (places : List PlaceSlack) (s : Stop) : Type 0 where
   pub lower : (k m : ℕ) (d : PlaceSlack) → first ≤ k → k < length least → k ≤ m → m + 1 < length places → slice_index_or least k (pos 0) ≤ℤ detour_of places s m d
   pub small : (k : ℕ) → first ≤ k → k < length least → unsigned_abs (slice_index_or least k (pos 0)) ≤ 2 ^ 60
 
--- lower bounds on the distances to a stop at place i and from it
+-- `near` has lower bounds on the distances to a stop inserted at place i and from it
 pub record IsNearBy (places : List PlaceSlack) (s : Stop) (i : ℕ) (near : Detour) : Type 0 where
   pub from_one : 1 ≤ i
   pub within : i < length places

@@ -14,8 +14,8 @@ pub record IsAt (stops : ℕ → Stop) (k : ℕ) (a : Progress) : Type 0 where
   pub load : a.load ≡ load_along stops k
   pub distance : a.distance ≡ length_along stops k
 
--- place k, if `last` is the place of the return; the greatest number stands for any start, and other starts are
--- far below 2^60
+-- the values of place k, if `last` is the place of the return; there any start will do, so `latest_start` is at
+-- least 2^60; at the other places it is far below 2^60
 pub record IsKnown (kind : Kind) (stops : ℕ → Stop) (last k : ℕ) (e : PlaceSlack) : Type 0 where
   pub at : IsAt stops k e.at
   pub latest_start : kind ≡ LiLim → (t : ℕ) → t ≤ 2 ^ 60 → MeetsLaterWindowsAlong kind stops last k t ↔ (t ≤ e.latest_start)

@@ -40,7 +40,8 @@ tail_is_within_limits limits r tail = int_le (r.load -ℤ tail.at.load +ℤ tail
 abbrev pub continues_within_limits : Limits → Ride → ℕ → ℕ → PlaceSlack → Bool
 continues_within_limits limits r service leg tail = is_within_limits limits (driven r service leg tail.at.stop) tail.at.stop && tail_is_within_limits limits (driven r service leg tail.at.stop) tail
 
--- whether a stop that comes next is within the limits, and then a place of the old route and all later ones
+-- whether a stop that comes next, the place of the old route after it, and all later places are within the
+-- limits
 abbrev pub can_visit : Limits → Ride → ℕ → ℕ → Stop → ℕ → PlaceSlack → Bool
 can_visit limits r service to s from tail = is_within_limits limits (driven r service to s) s && continues_within_limits limits (driven r service to s) s.service from tail
 

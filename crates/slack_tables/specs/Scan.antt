@@ -1,4 +1,4 @@
--- The insertions that a scan over the places of a table searches.
+-- The insertions that a scan over the places of a table considers.
 use Rattle.std.specs.Prelude.{◌^◌, nat_lt, slice_index_or, ◌≡◌, ℕ, ◌+◌, ◌-◌, ◌<◌, ◌≤◌, ℤ, ◌≤ℤ◌, ◌<ℤ◌, List, length, Option, Some, None, int_lt, if◌then◌else◌}
 use Rattle.std.specs.Option.{option_map}
 use Rattle.plan_types.specs.declared.requests.Stop.{Stop}

@@ -1,4 +1,4 @@
--- Bounds on the distance that a request adds to a route, without a look at each place.
+-- Bounds on the distance that a request adds to a route, computed without looking at each place.
 use Rattle.std.specs.Prelude.{◌≡◌, ℕ, ◌+◌, ◌-◌, ◌^◌, ◌<◌, ◌≤◌, ℤ, pos, ◌+ℤ◌, ◌-ℤ◌, ◌≤ℤ◌, unsigned_abs, List, length, None, slice_index_or}
 use Rattle.plan_types.specs.declared.requests.Stop.{Stop}
 use Rattle.nint_dist.specs.Distance.{distance}
@@ -101,7 +101,7 @@ pub record AreLaden (places : List PlaceSlack) : Type 0 where
       → (slice_index_or places (k + 1) d).at.load ≡ (slice_index_or places k d).at.load +ℤ (slice_index_or places (k + 1) d).at.stop.demand
   pub most : (k : ℕ) (d : PlaceSlack) → k < length places → (slice_index_or places (length places - 1) d).at.load ≤ℤ (slice_index_or places k d).max_load
 
--- a single fits nowhere for less than the bound into a route of this span
+-- a single fits nowhere for less than `below` into a route with this span
 abbrev pub RulesOut : Limits → Span → Stop → Stop → ℤ → Type 0
 RulesOut limits span depot s below =
     (places : List PlaceSlack) (kept : ℕ) (d : PlaceSlack) → IsSpan span places → AreLaden places → AreHome depot places

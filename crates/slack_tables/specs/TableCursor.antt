@@ -17,7 +17,7 @@ pub record IsLocatedAt (places : List PlaceSlack) (k : ℕ) (s : Stop) : Type 0 
 abbrev pub IsCursorFor : List PlaceSlack → Stop → TableCursor → Type 0
 IsCursorFor places s cursor = cursor.is_here ≡ true → IsLocatedAt places cursor.place s
 
--- the next place has the stop after the first k of a route
+-- the place after the cursor has the stop that follows the first k stops of a route
 pub record IsNext (places : List PlaceSlack) (route : List ℕ) (cursor : TableCursor) (k : ℕ) : Type 0 where
   pub here : cursor.is_here ≡ true
   pub within : cursor.place + 1 < length places

@@ -29,7 +29,7 @@ course_from limits depot places = record { kind = limits.kind; capacity = limits
 abbrev pub course_within : Inside → Course
 course_within a = course_from a.limits a.depot a.places.items
 
--- the places up to the last one keep the limits
+-- the places from 1 to `last` keep the limits
 pub record IsInLimits (kind : Kind) (capacity : ℕ) (at : ℕ → Stop) (last : ℕ) : Type 0 where
   pub load : (k : ℕ) → 1 ≤ k → k ≤ last → load_along at k ≤ℤ pos capacity
   pub window : kind ≡ LiLim → (k : ℕ) → 1 ≤ k → k ≤ last → start_along at k ≤ (at k).latest

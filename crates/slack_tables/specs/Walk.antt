@@ -20,7 +20,7 @@ pub record IsTrip (t : Trip) : Type 0 where
   pub between_stops : t.between_stops ≡ distance t.pickup t.delivery
   pub bound : t.between_stops ≤ 2 ^ 32
 
--- the pair is inserted into a route with these places
+-- a scan that inserts the pair into a route with these places
 pub record IsScan (t : Trip) (places : List PlaceSlack) : Type 0 where
   pub trip : IsTrip t
   pub small : All IsSmallRow places

@@ -1,9 +1,9 @@
-//! The places of a route where a pickup is too late, or makes later stops late, shown by lower bounds on
-//! distances.
+//! The places of a route where lower bounds on distances show that a pickup is too late or makes later stops
+//! late.
 //!
 //! A place is skipped if such a bound shows that the vehicle reaches the pickup after its latest time, or the
-//! next stop by more than 1 after that stop's latest start. The 1 is for the delivery: directly after the
-//! pickup it can make the rest of the trip shorter by 1, since rounded distances break the triangle inequality.
+//! next stop more than 1 after that stop's latest start. The 1 is for a delivery directly after the pickup. It
+//! can make the rest of the trip shorter by 1, since rounded distances break the triangle inequality.
 
 ghost use Rattle.std.specs.Prelude.{◌≡◌, ◌+◌, ◌-◌, ◌^◌, ◌≤◌, ◌<◌, All, IsTrue, length, slice_index_or};
 ghost use Rattle.nint_dist.specs.Distance.{distance};
@@ -18,8 +18,8 @@ use crate::ride::Detour;
 use nint_dist::detours_save_at_most_one;
 use plan_types::{Kind, Stop};
 
-/// Returns the first place after the first `kept` stops where a pickup is not known to be too late, or the
-/// number of places if there is none. Uses lower bounds on distances and so takes no square root.
+/// Returns the first place after the first `kept` stops where lower bounds on distances do not rule out the
+/// pickup, or the number of places if there is none. Takes no square root.
 pub(crate) fn first_open(limits: Limits, places: &[PlaceSlack], pickup: &Stop, kept: usize) -> usize
     requires places { All IsSmallRow places.now }
     requires ascending { AreAscending places.now }
@@ -44,8 +44,8 @@ pub(crate) fn first_open(limits: Limits, places: &[PlaceSlack], pickup: &Stop, k
     places.len()
 }
 
-// Returns the first place after the first `kept` stops whose latest start is not more than 1 before the
-// pickup's window opens, or the number of places.
+// Returns the first place after the first `kept` stops where `deadline_of` is not more than 1 before the
+// pickup's window opens, or the number of places if there is none.
 fn first_by_deadline(limits: Limits, places: &[PlaceSlack], pickup: &Stop, kept: usize) -> usize
     requires places { All IsSmallRow places.now }
     requires tight { AreTight limits.kind places.now }
@@ -63,7 +63,7 @@ fn first_by_deadline(limits: Limits, places: &[PlaceSlack], pickup: &Stop, kept:
     places.len()
 }
 
-// Returns whether service at a place must start more than 1 before a window opens.
+// Returns whether service at a place must start more than 1 before `earliest`.
 #[inline(always)]
 fn has_deadline_before(kind: Kind, place: &PlaceSlack, earliest: u32) -> bool
     ensures { result ≡ has_deadline_before kind place.now earliest }
@@ -83,7 +83,8 @@ fn deadline_of(place: &PlaceSlack) -> u64
     place.latest_start.min(u64::from(place.at.stop.latest))
 }
 
-/// Returns whether service at place `i - 1` starts after the pickup's latest time.
+/// Returns whether service at place `i - 1` starts after the pickup's latest time. If it does, place `i` and
+/// all later places are too late for the pickup.
 #[inline(always)]
 pub(crate) fn is_past(limits: Limits, places: &[PlaceSlack], pickup: &Stop, i: usize) -> bool
     requires places { All IsSmallRow places.now }

@@ -1,8 +1,8 @@
 //! The prefix that a route shares with the route of a table. Its places are copied from the table.
 //!
-//! `rebuild`, `into_rebuilt` and `keeps_limits` get a table of the same problem whose route has most stops in the
-//! same order. They copy the shared prefix. For the rest they compute each place, with legs from the table if
-//! it has them (`known_legs`). The table must be of the same problem, so that the same number means the same stop.
+//! `rebuild`, `into_rebuilt` and `keeps_limits` get the table of a route that usually has most stops in the
+//! same order. They copy the shared prefix. They compute each later place, with legs from the table if it has
+//! them (`known_legs`). The table must be of the same problem, so that the same number means the same stop.
 
 ghost use Rattle.std.specs.Prelude.{◌≡◌, ℕ, List, ◌+◌, ◌<◌, ◌≤◌, length, slice_set};
 ghost use Rattle.plan_types.specs.Instance.{Instance};
@@ -14,7 +14,8 @@ use crate::progress::{PlaceSlack, Progress};
 use crate::table::{at_depot, forward_row};
 use plan_types::{Problem, Stop};
 
-/// Returns how many of the first stops of a route the table has at the same places.
+/// Returns the length of the shared prefix: the number of first stops of a route that the table has at the same
+/// places.
 pub(crate) fn shared_prefix_length(known: &[PlaceSlack], route: &[u32]) -> usize
     ensures within { result ≤ length route.now }
     ensures known { 0 < result → result + 1 < length known.now }
@@ -77,7 +78,7 @@ pub(crate) fn copy_prefix(places: &mut [PlaceSlack], known: &[PlaceSlack], front
     }
 }
 
-/// Sets a place to this state, with nothing known about later places, if there is room for the place.
+/// Sets a place to this state, with nothing known about later places, if `places` is long enough.
 #[inline(always)]
 pub(crate) fn set_place(places: &mut [PlaceSlack], place: usize, at: Progress)
     ensures { places.new ≡ slice_set places.old place (forward_row at) }

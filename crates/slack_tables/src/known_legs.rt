@@ -1,8 +1,8 @@
 //! Stops and legs, taken from a table that has them, since a lookup is faster than a square root.
 //!
 //! If the vehicle is at a place of the table, by its coordinates, and the next stop is at the table's next
-//! place, by its number, then the stop and the leg are the table's. Otherwise the stop is looked up in the
-//! problem and the leg is computed. So how far the table is searched for a stop affects only the time.
+//! place, by its number, then the stop and the leg are taken from the table. Otherwise the stop is looked up in
+//! the problem and the leg is computed. So how far the table is searched for a stop affects only the time.
 
 ghost use Rattle.std.specs.Prelude.{◌≡◌, ◌+◌, ◌<◌, ◌≤◌, IsTrue, length, slice_index};
 ghost use Rattle.plan_types.specs.Limits.{IsVisit};
@@ -54,7 +54,7 @@ pub(crate) fn is_next(known: &[PlaceSlack], cursor: &TableCursor, route: &[u32],
     next < known.len() && known[next].at.stop.number == next_stop_number(route, k)
 }
 
-// Returns the number of the stop after the first `k` of a route, or 0 for the depot.
+// Returns the number of the stop after the first `k` stops of a route, or 0 for the depot.
 #[inline(always)]
 fn next_stop_number(route: &[u32], k: usize) -> u32
     ensures { result ≡ slice_index route.now k }
@@ -116,7 +116,7 @@ pub(crate) fn next_leg(
     u64::from(dist(from, to))
 }
 
-/// Returns the table's place of the next stop of a route.
+/// Returns the cursor for the next stop of a route. If not `is_next`, searches a few places ahead for the stop.
 #[inline(always)]
 pub(crate) fn next_cursor(
     known: &[PlaceSlack],
@@ -136,11 +136,12 @@ pub(crate) fn next_cursor(
     search_ahead(known, cursor.place, stop)
 }
 
-// The number of places that are searched for a stop. After a move most stops of a route are where they were or
-// a few places on.
+// A stop is searched for at the places less than this far ahead. After a move most stops of a route are where
+// they were or a few places on.
 const LOOKAHEAD: usize = 8;
 
-// Returns the table's place of the stop if it is one of the next few places.
+// Returns a cursor at the table's place of the stop if this is one of the next few places. Otherwise `is_here`
+// is false.
 #[inline(always)]
 fn search_ahead(known: &[PlaceSlack], place: usize, stop: &Stop) -> TableCursor
     ensures { IsCursorFor known.now stop.now result }

@@ -64,7 +64,8 @@ pub(crate) fn leg_longer_side(places: &[PlaceSlack], k: usize, stop: &Stop) -> u
     longer_side_between(&place.at.stop, stop)
 }
 
-// Returns how much longer the leg from a place to the next becomes through a stop at these distances from both.
+// Returns by how much a detour to a stop makes the leg from `here` to `next` longer. `to` is the distance from
+// `here` to the stop, `from` the distance from the stop to `next`.
 fn detour(here: &PlaceSlack, to: u64, from: u64, next: &PlaceSlack) -> i64
     requires here { IsSmallRow here.now }
     requires to { to ≤ 2 ^ 33 }

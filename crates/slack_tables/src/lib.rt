@@ -21,9 +21,9 @@
 //!
 //! Each place has its start, its load, its distance from the depot, its latest start, and the greatest load
 //! from there on. A prefix and a tail of the route fit together if the vehicle reaches the tail by the tail's
-//! latest start and its load leaves room for the tail's greatest load. The price of an insertion is a
-//! difference of distances from the depot. So a single takes one step at each place, and a pair takes a pass
-//! from its pickup place to its delivery place.
+//! latest start and the vehicle's load leaves room for the tail's greatest load. The price of an insertion is a
+//! difference of distances from the depot. So pricing a single takes one step per place, and pricing a pair
+//! takes a pass from its pickup place to its delivery place.
 //!
 //! A table holds copies of its stops, so it stays valid if other parts of the problem change. In contracts its
 //! value is its course: the kind, the capacity, the depot and the stops. Its `start`, `load`, `latest_start`

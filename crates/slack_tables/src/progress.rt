@@ -36,8 +36,7 @@ pub(crate) struct PlaceSlack {
     pub max_load: i64,
 }
 
-/// Returns whether a start of service is not after the latest one. It is always true for a problem of kind
-/// `Vrp`.
+/// Returns whether a start of service is not after the latest one. Always true for a problem of kind `Vrp`.
 pub(crate) fn is_in_time(kind: Kind, start: u64, latest: u64) -> bool
     ensures { result ≡ is_in_time kind start latest }
 {
@@ -47,7 +46,8 @@ pub(crate) fn is_in_time(kind: Kind, start: u64, latest: u64) -> bool
     }
 }
 
-/// Returns a later load of a route if the load at an earlier place changes from `before` to `after`.
+/// Returns what the load `load` at a place becomes if the load at an earlier place changes from `before` to
+/// `after`.
 pub(crate) fn moved_load(load: i64, before: i64, after: i64) -> i64
     requires load { unsigned_abs load ≤ 2 ^ 60 }
     requires before { unsigned_abs before ≤ 2 ^ 60 }

@@ -1,8 +1,8 @@
 //! The step of a vehicle to the next stop, and between the places of a table. Used to build tables, for one
 //! insertion and for the scan.
 //!
-//! A `Ride` is the state of a vehicle without its stop, so no distance is computed if the leg is known. Prices
-//! are compared before limits.
+//! A `Ride` is the state of a vehicle without its stop. Callers pass the length of each leg, so a known leg is
+//! not computed again. Prices are compared before limits are checked.
 
 ghost use Rattle.std.specs.Prelude.{◌≡◌, ◌≤◌, ◌+◌, ◌^◌, unsigned_abs, IfSome};
 ghost use Rattle.plan_types.specs.Limits.{IsVisit};
@@ -104,8 +104,8 @@ pub(crate) fn ride_on(
     }
 }
 
-// Returns whether all places after this one of the old route keep the limits if the vehicle reaches it in this
-// state.
+// Returns whether all places of the old route after `tail` keep the limits if the vehicle is at `tail` in state
+// `ride`.
 fn tail_is_within_limits(limits: Limits, ride: &Ride, tail: &PlaceSlack) -> bool
     requires ride { IsSmallRide (2 ^ 60) ride.now }
     requires tail { IsSmallRow tail.now }
@@ -115,7 +115,7 @@ fn tail_is_within_limits(limits: Limits, ride: &Ride, tail: &PlaceSlack) -> bool
         && is_in_time(limits.kind, ride.start, tail.latest_start)
 }
 
-// Returns whether the place and all later ones keep the limits if the vehicle continues to it.
+// Returns whether the place `tail` and all later places keep the limits if the vehicle continues to `tail`.
 fn continues_within_limits(
     limits: Limits,
     from: &Ride,
@@ -159,8 +159,8 @@ fn can_visit(
         && continues_within_limits(limits, &ride, stop.service, detour.from, tail)
 }
 
-/// Returns the distance that a stop before a place adds if it is less than `below` and all limits are kept. The
-/// price is compared first, since it is cheaper to compute.
+/// Returns the distance that `stop` adds before the place `tail` if the distance is less than `below` and all
+/// limits are kept. The distance is compared first, since that is faster than checking the limits.
 pub(crate) fn price_below(
     below: i64,
     limits: Limits,

@@ -2,16 +2,17 @@
 //!
 //! A scan tries each place of the pickup, and for each the places of the delivery. Most places are skipped
 //! before a square root is taken:
-//! - the whole scan, by the span of the route, before it starts (`rules_out` of `table`);
+//! - all places, before the scan starts, if the span of the route rules out the request (`rules_out` of
+//!   `table`);
 //! - places of the pickup where a lower bound on times shows that the pickup or the next stop is too late
 //!   (`closed`);
-//! - places of a pickup or a single where a lower bound on prices shows that each insertion adds at least the
-//!   bound;
+//! - places of a pickup or a single where a lower bound on prices shows that each insertion adds no less than
+//!   the best so far, or no less than `below`;
 //! - the rest of the delivery's places, once the vehicle is past the delivery's latest time.
 //!
-//! For the prices, a buffer on the stack holds the least detours to the delivery from each place on (`legs`),
-//! for routes of up to 128 places, including both depot places. Longer routes have no such bound. So a scan
-//! allocates nothing.
+//! For the bounds on prices, a buffer on the stack holds the least detours to the delivery from each place on
+//! (`legs`), so a scan allocates nothing. The buffer has room for 128 places, including both depot places. For
+//! longer routes the least detours are not used.
 
 ghost use Rattle.std.specs.Prelude.{◌≡◌, ◌+◌, ◌^◌, ◌-◌, ◌≤◌, ◌<◌, pos, ◌+ℤ◌, ◌-ℤ◌, ◌≤ℤ◌, All, IfSome, IsTrue, true, length, slice_index_or, unsigned_abs};
 ghost use Rattle.plan_types.specs.Limits.{IsVisit};
@@ -48,8 +49,8 @@ pub struct PricedInsertion {
     pub delivery: u64,
 }
 
-/// Proves that there is only one best insertion: two answers of `best_places` to the same question are the
-/// same.
+/// Proves that there is only one best insertion: two calls of `best_places` with the same arguments return the
+/// same insertion.
 pub fn best_places_are_unique()
     ensures { BestPlacesAreUnique }
 {}
@@ -68,7 +69,7 @@ impl Best {
         Best { bound, found: None }
     }
 
-    // Records the distance added at two places if it is less than all before.
+    // Records the insertion at these two places if it adds less than `bound`.
     fn offer(&mut self, distance: Option<i64>, pickup: usize, delivery: usize)
         ensures { self.new ≡ offered self.old distance pickup delivery }
     {
@@ -85,7 +86,7 @@ impl Best {
         }
     }
 
-    // Records an insertion that was found below the bound.
+    // Records an insertion, if there is one, that adds less than `bound`.
     fn accept(&mut self, found: Option<PricedInsertion>)
         ensures { self.new ≡ accepted self.old found }
     {
@@ -252,8 +253,9 @@ struct Trip {
     between_stops: u64,
 }
 
-// Returns the best places of a pair with its pickup at place `first` or later. Ends at a place whose
-// predecessor starts after the pickup's latest time, since all later ones are too late.
+// Returns the best places of a pair with its pickup at place `first` or later. Ends at a place if service at
+// the previous place starts after the pickup's latest time: then this place and all later ones are too late for
+// the pickup.
 fn best_from(
     trip: &Trip,
     places: &[PlaceSlack],
@@ -313,8 +315,8 @@ fn best_at(
     best_delivery(trip, places, least, i, first, below)
 }
 
-// Returns whether lower bounds on prices show that each place of the delivery adds `below` or more if the
-// pickup is at place `i`.
+// Returns whether lower bounds on prices show that a pair with its pickup at place `i` adds `below` or more at
+// each place of its delivery.
 fn are_too_expensive(
     trip: &Trip,
     places: &[PlaceSlack],
@@ -337,7 +339,8 @@ fn are_too_expensive(
 }
 
 // Returns whether neither a delivery directly after the pickup at place `i` nor a later one adds less than
-// `below`. `near` is the distance up to place `i` through both stops, `apart` that through only the pickup.
+// `below`. `near` is the distance up to place `i` of the table through both stops, `apart` the distance through
+// only the pickup, and `base` the distance through neither.
 fn is_too_expensive(least: &[i64], i: usize, near: u64, apart: u64, base: u64, below: i64) -> bool
     requires near { near ≤ 2 ^ 59 }
     requires apart { apart ≤ 2 ^ 59 }

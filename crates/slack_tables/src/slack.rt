@@ -1,4 +1,4 @@
-//! The backward pass, which computes the slack of each place: Savelsbergh's forward time slack, kept as a
+//! The backward pass, which computes the slack of each place: Savelsbergh's forward time slack, stored as a
 //! latest start.
 //!
 //! The forward pass stores stops and distances at each place, so this pass needs nothing else of the schedule.

@@ -1,12 +1,14 @@
-//! Lower bounds on the distance that a request adds to a route, without a look at each place.
+//! Lower bounds on the distance that a request adds to a route, computed without looking at each place.
 //!
 //! A span has the bounding box of the stops, the longest leg between two consecutive stops, the longer of the
 //! first and the last leg, and the load at the end. These rule out scans that cannot find anything:
 //! - A single that exceeds the capacity at the end exceeds it wherever it is inserted.
 //! - A stop adds at least twice its distance to the box minus the longest leg. At an end of the route it adds
 //!   at least its distances to the box and to the depot, minus the longer of the first and the last leg.
-//! - A pair adds at least the sum of these bounds for both stops. If its stops are consecutive, it adds at
-//!   least both distances to the box plus the distance between the stops, minus the longest leg.
+//! - A pair whose stops are not consecutive adds at least the sum of these bounds for both stops. If they are
+//!   consecutive and between two stops, it adds at least both distances to the box plus the distance between
+//!   its stops, minus the longest leg. At an end of the route, the distance to the depot replaces one distance
+//!   to the box, and the longer of the first and the last leg replaces the longest leg.
 //!
 //! The bounds do not rely on the triangle inequality, so rounding does not invalidate them. Distances are
 //! bounded from below without a square root: by the greater of their components along two directions
@@ -83,7 +85,7 @@ impl Span {
         }
     }
 
-    // Returns the span with another place, which follows a place in it.
+    // Returns the span extended by the place `here`, which follows the place `before` of the span.
     fn extended(&self, before: &PlaceSlack, here: &PlaceSlack) -> Span
         requires before { IsSmallRow before.now }
         requires here { IsSmallRow here.now }
@@ -152,7 +154,8 @@ impl Span {
         self.floor(&DistanceFloors { inside, to_depot }) >= below
     }
 
-    /// Returns whether a pair adds `below` or more wherever it is inserted, by lower bounds on its distances.
+    /// Returns whether a pair adds `below` or more wherever it is inserted. `ways` has lower bounds on its
+    /// distances.
     pub(crate) fn is_far_pair(
         &self,
         pickup: &Stop,
@@ -227,7 +230,7 @@ impl Span {
         inner.min(outer)
     }
 
-    /// Returns whether each stop in the span is known to be farther from this one than `reach`.
+    /// Returns whether each stop in the span is known to be farther from `center` than `reach`.
     #[inline(always)]
     pub(crate) fn is_beyond(&self, center: &Stop, reach: u32) -> bool
         ensures { IsTrue result → (s : Stop) → IsInside self.now s → reach < distance center.now s }
@@ -297,7 +300,7 @@ pub(crate) fn longer_side_between(a: &Stop, b: &Stop) -> u64
     longer_side(u64::from(a.x.abs_diff(b.x)), u64::from(a.y.abs_diff(b.y)))
 }
 
-// Returns a lower bound on each distance with these differences of coordinates.
+// Returns a lower bound on the distance between stops whose coordinates differ by `dx` and `dy`.
 #[inline(always)]
 fn longer_side(dx: u64, dy: u64) -> u64
     requires dx { dx < 2 ^ 32 }
@@ -308,7 +311,7 @@ fn longer_side(dx: u64, dy: u64) -> u64
     dx.max(dy)
 }
 
-// Returns the distance of a coordinate from the interval between two others.
+// Returns the distance of the coordinate `x` from the interval between `low` and `high`.
 fn gap(low: i32, high: i32, x: i32) -> u64
     ensures below { (z : ℤ) → low ≤ℤ z → z ≤ℤ high → result ≤ unsigned_abs (z -ℤ x) }
     ensures bound { result < 2 ^ 32 }
@@ -322,8 +325,9 @@ fn gap(low: i32, high: i32, x: i32) -> u64
     0
 }
 
-// Returns a lower bound on each distance with these differences of coordinates, without a square root. A
-// distance is at least its component along any direction, and one of these two directions is close to its own.
+// Returns a lower bound on the distance between stops whose coordinates differ by `dx` and `dy`, without a
+// square root. A distance is at least its component along any direction. One of the two directions used here is
+// close to that of the distance.
 fn length_lower_bound(dx: u64, dy: u64) -> u64
     requires dx { dx < 2 ^ 32 }
     requires dy { dy < 2 ^ 32 }

@@ -1,10 +1,10 @@
 //! The table of a route: a list of places with what is known about each.
 //!
 //! The depot is at both ends of the list, so no place is a special case: at place 0 the vehicle departs, and
-//! after the last stop it returns. The forward pass fills in starts, loads and distances, beginning where a
-//! given table differs (`front`). The backward pass fills in latest starts and greatest loads (`slack`).
-//! Windows are checked only if the kind of the problem has them. So in a table of a `Vrp` problem only the
-//! starts are meaningful times.
+//! after the last stop it returns. The forward pass fills in starts, loads and distances, beginning after the
+//! prefix that the route shares with a given table (`front`). The backward pass fills in latest starts and
+//! greatest loads (`slack`). Windows are checked only if the kind of the problem has them. So in a table of a
+//! `Vrp` problem only the starts are meaningful times.
 
 ghost use Rattle.std.specs.Prelude.{◌≡◌, ◌↔◌, ◌+◌, ◌-◌, ◌<◌, ◌≤◌, ℕ, Some, true, IsSome, IsTrue, IfOk, OnOk, OnErr, length, slice_index_or};
 ghost use Rattle.plan_types.specs.declared.requests.Stop.{Stop};
@@ -90,7 +90,7 @@ impl RouteTable {
     }
 
     /// Makes this the table of another route, reusing its memory. If an allocation fails, the table stays
-    /// unchanged. It is fastest if `near` is the table of a route that has most stops in the same order.
+    /// unchanged. This is fastest if the route of `near` has most stops of `route` in the same order.
     pub fn rebuild(
         &mut self,
         problem: &Problem,
@@ -112,7 +112,7 @@ impl RouteTable {
     }
 
     /// Turns this table into the table of another route, reusing its memory. Returns `None` if the route
-    /// exceeds the capacity or a window. It is fastest if `near` is the table of a route that has most stops in
+    /// exceeds the capacity or a window. This is fastest if the route of `near` has most stops of `route` in
     /// the same order.
     ///
     /// This takes one pass along the route. `keeps_limits` followed by `rebuild` takes two.
@@ -142,8 +142,8 @@ impl RouteTable {
         }))
     }
 
-    /// Returns whether a route keeps the capacity and the windows. It is fastest if this is the table of a
-    /// route that has most stops in the same order.
+    /// Returns whether a route keeps the capacity and the windows. This is fastest if the route of this table
+    /// has most stops of `route` in the same order.
     pub fn keeps_limits(&self, problem: &Problem, route: &[u32]) -> bool
         requires near { IsCourseIn problem.now self.now }
         requires route { AreDistinctStops problem.now route.now }
@@ -184,8 +184,8 @@ impl RouteTable {
         &small_row(places, index).at.stop
     }
 
-    /// Returns whether the bounding box of the route shows that each stop is farther from this one than
-    /// `reach`.
+    /// Returns whether the bounding box of the route shows that each stop of the route is farther from `center`
+    /// than `reach`.
     #[inline(always)]
     pub fn is_beyond(&self, center: &Stop, reach: u32) -> bool
         ensures { IsTrue result → (p : Instance) (route : List ℕ) → course_of p route ≡ self.now
@@ -206,9 +206,9 @@ impl RouteTable {
         row_at(places, place).at.start
     }
 
-    /// Returns the latest start of service at a place from which neither a later window nor the return is
-    /// missed. The window of the place itself does not count. Returns `None` if any start will do: at the
-    /// return, and for a problem of kind `Vrp`.
+    /// Returns the latest start of service at a place that misses neither a later window nor the return. The
+    /// window of the place itself does not count. Returns `None` if any start will do: at the return, and for a
+    /// problem of kind `Vrp`.
     pub fn latest_start(&self, place: usize) -> Option<u64>
         requires { place ≤ length self.now.stops + 1 }
         ensures { (p : Instance) (route : List ℕ) → course_of p route ≡ self.now
@@ -315,8 +315,8 @@ impl RouteTable {
     /// first `kept` stops. Returns `None` if it fits nowhere for less than `below`. Among places that add the
     /// same distance, the earliest pickup place wins, then the earliest delivery place. Allocates nothing.
     ///
-    /// The distance is that of `try_insert` at the best of all places, in a problem that has the request and
-    /// the route's stops. Call `rules_out` first: it is much faster if the answer is `None`.
+    /// The distance is the one that `try_insert` returns for these places, in any problem that has the request
+    /// and the route's stops. Call `rules_out` first: it is much faster if the answer is `None`.
     pub fn best_places(&self, request: &Request, kept: u64, below: i64) -> Option<PricedInsertion>
         requires request { IsRequest request.now }
         requires kept { kept ≤ length self.now.stops }
@@ -377,7 +377,7 @@ fn load_at(place: &PlaceSlack) -> i64
     place.at.load
 }
 
-// Rebuilds the places for another route, and returns whether it keeps the limits.
+// Rebuilds the places for another route, and returns whether the route keeps the limits.
 fn rebuild_places(
     places: &mut Vec<PlaceSlack>,
     problem: &Problem,
@@ -398,7 +398,7 @@ fn rebuild_places(
     Ok(fill(places.as_mut_slice(), problem, known, route))
 }
 
-// Fills in the places of a route, and returns whether it keeps the limits.
+// Fills in the places of a route, and returns whether the route keeps the limits.
 fn fill(places: &mut [PlaceSlack], problem: &Problem, known: &[PlaceSlack], route: &[u32]) -> bool
     requires known { AreLinked known.now }
     requires prefixes { KnowsPrefixes problem.now known.now }
@@ -416,8 +416,8 @@ fn fill(places: &mut [PlaceSlack], problem: &Problem, known: &[PlaceSlack], rout
     true
 }
 
-// Returns whether a route keeps the limits. Sets each of its places for which there is room, with nothing known
-// about later places.
+// Returns whether a route keeps the limits. Sets each place of the route that fits into `places`, with nothing
+// known about later places.
 fn drive_route(
     places: &mut [PlaceSlack],
     problem: &Problem,

@@ -56,7 +56,7 @@ impl Draft {
         self.cost_with_legs(before, after)
     }
 
-    // Returns the place of a single if its hint is right.
+    // Returns the place of a single if the vehicle hint of its stop is right.
     fn single_place(&self, problem: &Problem, pins: &Pins, name: u32) -> Option<SinglePlace>
         requires { IsDraftOf problem.now pins.now.routes self.now }
         ensures { IfSome result (λ seat. IsSinglePlaceOf problem.now (draft_of self.now) name seat) }
@@ -73,7 +73,8 @@ impl Draft {
         })
     }
 
-    // Returns the distance from the stop before a place to `stop` and on to the stop after that place.
+    // Returns the distance from the stop before the place `seat` to `stop`, and on to the stop after that
+    // place.
     fn distance_via(&self, problem: &Problem, pins: &Pins, seat: &SinglePlace, stop: &Stop) -> u64
         requires is { IsDraftOf problem.now pins.now.routes self.now }
         requires single_at { IsSinglePlace (draft_of self.now) seat.now }
@@ -83,7 +84,7 @@ impl Draft {
         ensures bound { result ≤ 2 ^ 33 }
     {
         let table = self.table(seat.vehicle);
-        // The law that the route has few stops, so that the next place has a number.
+        // Proves that the route has few stops, so that the number of the next place does not overflow.
         let _few = table.stop_count();
         let before = table.stop(seat.index);
         let following = table.stop(seat.index + 2);
@@ -121,8 +122,8 @@ impl Draft {
         self.cost_with_legs(before, after)
     }
 
-    // Returns the distance from the last stop before a cut of one route to the first stop after a cut of
-    // another.
+    // Returns the distance from the last stop before the cut `from` to the first stop after the cut `to`. The
+    // cuts may be the same.
     fn distance_across(&self, problem: &Problem, pins: &Pins, from: Cut, to: Cut) -> u64
         requires is { IsDraftOf problem.now pins.now.routes self.now }
         requires from { IsCutOf (draft_of self.now) from }
@@ -134,13 +135,14 @@ impl Draft {
     {
         let last = self.table(from.vehicle).stop(from.stops as usize);
         let table = self.table(to.vehicle);
-        // The law that the route has few stops, so that the next place has a number.
+        // Proves that the route has few stops, so that the number of the next place does not overflow.
         let _few = table.stop_count();
         let next = table.stop(to.stops as usize + 1);
         leg_length(last, next)
     }
 
-    // Returns the cost of the draft when legs of the length `before` are replaced by legs of the length `after`.
+    // Returns the cost of the draft if legs with the total length `before` are replaced by legs with the total
+    // length `after`.
     fn cost_with_legs(&self, before: u64, after: u64) -> Option<Cost>
         ensures { IfSome result (λ cost. IsCostWithLegs self.now.cost before after cost) }
     {

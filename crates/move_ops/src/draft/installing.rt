@@ -20,7 +20,8 @@ use plan_audit::passing_is_local;
 use plan_types::{Cost, Kind, OutOfMemory, Pins, Problem, numbers_are_below_next_number};
 
 impl Draft {
-    /// Applies these changes, if there are any. Returns whether there were.
+    /// Applies the changes unless they are `None`. Returns whether they were applied. The changed draft leaves
+    /// `unplanned` requests out.
     pub(crate) fn apply(
         &mut self,
         problem: &Problem,
@@ -48,7 +49,7 @@ impl Draft {
         }
     }
 
-    /// Replaces the tours of some vehicles. Does not allocate.
+    /// Replaces the tours of some vehicles. The new draft leaves `unplanned` requests out. Cannot fail.
     pub(crate) fn install(
         &mut self,
         problem: &Problem,
@@ -105,8 +106,8 @@ impl Draft {
         (vehicles, driven as u64)
     }
 
-    /// Returns the number of vehicles in the cost when this vehicle has another tour. `now` is that number with
-    /// its present tour.
+    /// Returns the number of vehicles in the cost after `vehicle` gets the tour `tour`. `now` is the number
+    /// before.
     pub(crate) fn vehicle_count_with(
         &self,
         problem: &Problem,

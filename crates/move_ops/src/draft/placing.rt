@@ -33,8 +33,8 @@ use plan_types::{
 };
 use std::mem;
 
-// A plan that is built from nothing changes every vehicle. With more than this many changes no vehicle is looked
-// at first.
+// The greatest number of changed vehicles that a best insertion looks at first. If more are changed, as in a
+// plan that is built from nothing, it looks at no vehicle first.
 const MAX_FIRST: usize = 16;
 
 impl Draft {
@@ -210,7 +210,7 @@ impl Draft {
         Ok(tour_of(&self.tours, vehicle).is_feasible(problem, &route))
     }
 
-    // Returns whether this is a place of the request after the pins.
+    // Returns whether the request can have this place, which must be after the pin of its vehicle.
     fn is_place_of(&self, pins: &[Route], request: &Request, place: (u64, u64, u64)) -> bool
         ensures { result ≡ is_place_of pins.now (draft_of self.now) request.now place }
     {
@@ -288,7 +288,8 @@ impl Draft {
         Ok(cost)
     }
 
-    // Returns the cost of the draft when this vehicle has another tour and `unplanned` requests are left out.
+    // Returns the cost of the draft after `vehicle` gets the tour `tour`, if `unplanned` requests are then left
+    // out.
     fn cost_with(&self, problem: &Problem, vehicle: u32, tour: &Tour, unplanned: u64) -> Cost
         requires tables { AreTablesIn problem.now self.now.tours }
         requires cost { self.now.cost ≡ cost_of problem.now (draft_of self.now) }

@@ -118,8 +118,8 @@ impl Draft {
         Ok(Some(changes))
     }
 
-    // Returns the changed routes of an exchange: each stop of one request takes the place of the other's. Only
-    // vehicles with such a stop are in the list.
+    // Returns the changed routes of an exchange: each stop of one request takes the place of its counterpart in
+    // the other. Only vehicles with a stop of the two requests are in the list.
     fn exchanges(&self, first: &Request, second: &Request) -> Result<Vec<Change>, OutOfMemory>
         requires few { length (draft_of self.now) ≤ 40000 }
         requires once { IsDistinct nat_eq (concat (draft_of self.now)) }
@@ -157,7 +157,7 @@ impl Draft {
         Ok(changes)
     }
 
-    // Returns whether both requests can be moved and each fits the places of the other.
+    // Returns whether both requests can be moved, and both are singles or both are pairs.
     fn are_exchangeable(
         &self,
         problem: &Problem,
@@ -250,8 +250,8 @@ impl Draft {
         first.vehicle != second.vehicle && self.is_cut(kept, first) && self.is_cut(kept, second)
     }
 
-    // Returns whether this is a valid cut: the vehicle exists, its route has at least as many stops, and its
-    // pin at most as many.
+    // Returns whether this is a valid cut: the vehicle exists, its route has at least `cut.stops` stops, and
+    // its pin at most `cut.stops`.
     fn is_cut(&self, pins: &[Route], cut: Cut) -> bool
         ensures { result ≡ is_cut pins.now (draft_of self.now) cut.vehicle cut.stops }
     {
@@ -263,7 +263,8 @@ impl Draft {
         kept <= cut.stops && cut.stops <= stops
     }
 
-    // Returns the stops of one route before its cut, followed by those of the other after its cut.
+    // Returns the stops before the cut `front` of one route, followed by the stops after the cut `back` of
+    // another.
     fn joined(&self, front: Cut, back: Cut) -> Result<Route, OutOfMemory>
         requires front { IsCutOf (draft_of self.now) front }
         requires back { IsCutOf (draft_of self.now) back }

@@ -1,4 +1,5 @@
--- The places copied so far are those of the forward pass, so after the last one the whole prefix is.
+-- The places copied so far have their values from the forward pass. So after the last copy the whole prefix has
+-- them.
 use Rattle.std.proofs.Common.{◌≡◌, ℕ, ◌+◌, List, length}
 use Rattle.plan_types.specs.Instance.{Instance}
 use Rattle.route_sched.specs.Route.{place}

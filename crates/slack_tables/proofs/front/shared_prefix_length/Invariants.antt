@@ -1,4 +1,4 @@
--- The table has the stops so far at the same places of the route, so they are a shared prefix wherever the loop
+-- The table has the route's stops so far at the same places, so they are a shared prefix wherever the loop
 -- ends.
 use Rattle.slack_tables.specs.SharedPrefix.{IsSharedPrefix}
 use Rattle.slack_tables.proofs.front.shared_prefix_length.Given as goal

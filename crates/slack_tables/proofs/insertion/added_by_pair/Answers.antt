@@ -1,5 +1,5 @@
--- Each ride to the next place with the pickup on board is a step of the trip. If one breaks a limit, there is
--- no result; otherwise it is the distance that the delivery adds.
+-- Each ride to the next place with the pickup on board is a step of the trip. If a ride breaks a limit, the
+-- result is `None`; otherwise it is the distance that the delivery adds.
 use Rattle.std.proofs.Common.{◌≡◌, ◌∙◌, ◌+◌, ◌-◌, get_or, refl, sym, ap, arith, subst, Some}
 use Rattle.std.specs.Option.{option_map}
 use Rattle.nint_dist.specs.Distance.{distance}

@@ -1,5 +1,5 @@
--- From place k on each number is a lower bound on all detours from its place on. So once k is the first place,
--- all of them are.
+-- From place k on, each number is a lower bound on all detours from its place on. So once k is `first`, this
+-- holds for all places to fill.
 use Rattle.std.proofs.Common.{◌≤◌, ◌^◌, get_or}
 use Rattle.nint_dist.specs.Distance.{distance}
 use Rattle.slack_tables.specs.declared.progress.PlaceSlack.{PlaceSlack}

@@ -1,5 +1,5 @@
--- The best insertion with the pickup before place i is known. So at the end, or if the rest is too late, it is
--- the best of all.
+-- The best insertion with the pickup before place i is known. So at the end, or if all later places are too
+-- late, it is the best of all.
 use Rattle.std.proofs.Common.{◌^◌, ◌-◌, ◌≤◌, get_or}
 use Rattle.nint_dist.specs.Distance.{distance}
 use Rattle.slack_tables.specs.declared.progress.PlaceSlack.{PlaceSlack}

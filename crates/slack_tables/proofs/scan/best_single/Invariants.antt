@@ -1,5 +1,5 @@
--- The best of the places before i is known, and a lower bound on the distance from the last of these places to
--- the single. So at the end the best of all places is known.
+-- The best of the places before i is known, and so is a lower bound on the distance from the last of these
+-- places to the single. So at the end the best of all places is known.
 use Rattle.std.proofs.Common.{◌^◌, ◌-◌, ◌<◌, ◌≤◌, get_or}
 use Rattle.nint_dist.specs.Distance.{distance}
 use Rattle.slack_tables.specs.declared.progress.PlaceSlack.{PlaceSlack}

@@ -1,4 +1,4 @@
--- The bound is the value of its 64 bits, so the best from the first place on is the best below it.
+-- The bound is the value of its 64 bits, so the best from the first place on is the best below the bound.
 use Rattle.std.proofs.Common.{◌-◌, w64, subst}
 use mir.Val.{SFits}
 use Rattle.std.proofs.lemmas.Int.{to_z-of_z}

@@ -1,5 +1,5 @@
 -- The vehicle has reached place k within its limits, the places so far are set, and the cursor is right. So
--- once it has returned, the route keeps its limits.
+-- once the vehicle has returned, the route keeps its limits.
 use Rattle.std.proofs.Common.{◌≡◌, ◌+◌, length}
 use Rattle.route_sched.specs.Route.{place}
 use Rattle.slack_tables.specs.SharedPrefix.{HasReached}

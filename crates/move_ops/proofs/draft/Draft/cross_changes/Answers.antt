@@ -1,5 +1,5 @@
--- Both routes with their ends exchanged have current, distinct stops. If they are feasible alone they make the
--- crossed plan, else there is none.
+-- Both routes with their ends exchanged have current, distinct stops. If both are feasible alone, they make the
+-- crossed plan; otherwise there is no such plan.
 use Rattle.std.proofs.Common.{rules, ◌≡◌, ◌∷◌, [], List, true, false, Some, refl, sym, ap, subst, ◌∙◌}
 use Rattle.route_sched.specs.Route.{AreDistinctStops}
 use Rattle.plan_audit.specs.Passes.{feasible_alone}

@@ -1,5 +1,5 @@
--- The changed routes have current, distinct stops. If they are feasible alone they make the plan with the two
--- requests exchanged, else there is none.
+-- The changed routes have current, distinct stops. If they are feasible alone, they make the plan with the two
+-- requests exchanged; otherwise there is no such plan.
 use Rattle.std.proofs.Common.{rules, ◌≡◌, ◌≤◌, length, ℕ, List, true, false, All, Some, map, sym, ap, subst, ◌∙◌}
 use Rattle.slack_tables.specs.Course.{Course}
 use Rattle.move_ops.specs.Moves.{counterpart}

@@ -1,4 +1,5 @@
--- A current request that can be inserted at this place makes the plan with it, and one that can't makes none.
+-- If a current request can be inserted at this place, the draft becomes the plan with the request. Otherwise
+-- there is no such plan.
 use Rattle.std.proofs.Common.{rules, None, Some}
 use Rattle.move_ops.specs.Drafts.{draft_of}
 use Rattle.move_ops.specs.Insertion.{inserted_at, with_request_at}

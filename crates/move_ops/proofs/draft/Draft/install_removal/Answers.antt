@@ -1,5 +1,5 @@
--- Few requests are left out, so more can be counted. Once the tours are set, the draft has no stop of the named
--- requests.
+-- The new plan leaves few requests out, so adding the removed requests to the count does not overflow. Once the
+-- tours are set, the draft has no stop of the named requests.
 use Rattle.std.proofs.Common.{rules, ◌≡◌, ap, ◌∙◌, arith}
 use Rattle.plan_types.specs.declared.plans.Cost.{Cost}
 use Rattle.move_ops.specs.Changes.{changes_of, with_routes}

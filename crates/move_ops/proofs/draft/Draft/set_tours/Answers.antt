@@ -1,4 +1,4 @@
--- With one more tour only its route changes the number of used vehicles and the total length. The remaining
+-- One more tour changes the number of used vehicles and the total length only by its own route. The remaining
 -- tours lead to the plan with all.
 use Rattle.std.proofs.Common.{rules, ◌≡◌, ◌-◌, ◌∷◌, [], length, sym, ap, subst, ◌∙◌, arith, length-append}
 use Rattle.std.specs.Vec.Iter.{into_iter_items}

@@ -1,5 +1,5 @@
--- The next route without the requests is current and paired. If it isn't feasible alone, not all routes are;
--- otherwise its tour is appended.
+-- The next route without the requests has current, distinct stops and whole pairs. If it isn't feasible alone,
+-- not all routes are; otherwise its tour is appended.
 use Rattle.std.proofs.Common.{rules, ◌≡◌, ◌∙◌, true, ℕ, List, Option, None, Some, get_or, sym, ap, subst}
 use Rattle.route_sched.specs.Route.{AreDistinctStops}
 use Rattle.plan_audit.specs.Passes.{feasible_alone}

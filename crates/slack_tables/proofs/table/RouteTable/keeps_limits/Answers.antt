@@ -1,4 +1,4 @@
--- A table whose course is of this problem has the shared prefixes and the stops of its routes.
+-- A table whose course is of this problem has the right states after shared prefixes, and the problem's stops.
 use Rattle.slack_tables.proofs.table.RouteTable.keeps_limits.Goals as goal
 
 pub drive_route-requires-clause-prefixes : goal.drive_route-requires-clause-prefixes

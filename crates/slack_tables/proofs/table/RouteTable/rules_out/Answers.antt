@@ -1,4 +1,5 @@
--- The bound is the value of its 64 bits, so what the lower bounds rule out fits nowhere for less than it.
+-- The bound is the value of its 64 bits, so a request that the lower bounds rule out fits nowhere for less than
+-- the bound.
 use Rattle.std.proofs.Common.{w64, subst}
 use mir.Val.{SFits}
 use Rattle.std.proofs.lemmas.Int.{to_z-of_z}

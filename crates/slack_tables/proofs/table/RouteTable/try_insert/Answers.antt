@@ -1,5 +1,5 @@
--- The distance that a single or a pair adds by the table's places is the one by which the route gets longer, or
--- there is none if it breaks a limit.
+-- The distance that a single or a pair adds, computed from the table's places, is the distance by which the
+-- route gets longer. The result is `None` if the new route breaks a limit.
 use Rattle.std.proofs.Common.{◌≡◌, ◌∙◌, length, Option, Some, None, refl, sym, ap, subst}
 use Rattle.std.specs.Prelude.{IsSome, IsSomeAnd, IfSome}
 use Rattle.plan_types.specs.declared.requests.Request.{Request}
