@@ -1,5 +1,5 @@
--- The verdict on a plan is that on its stops, loads and times, then that on its number of routes, then that on
--- its pins. If all rules hold, it passes with its cost.
+-- The verdict on a plan depends first on its stops, loads and times, then on its number of routes, then on its
+-- pins. If all rules hold, the plan passes with its cost.
 use Rattle.std.proofs.Common.{◌≡◌, ℕ, List, Option, length, sym, ap, subst, ◌∙◌, refl, arith}
 use Rattle.plan_types.specs.Instance.{Instance}
 use Rattle.plan_audit.specs.FirstFault.{first_pin_mismatch}
