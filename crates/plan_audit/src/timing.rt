@@ -152,7 +152,7 @@ fn is_late(visit: &Visit) -> bool
     is_too_late(visit.start, visit.stop.latest)
 }
 
-// Finds the first stop whose visit fails the test.
+// Finds the first stop for whose visit `fails` returns true.
 fn first_visit<F: Fn(Visit) -> bool>(
     problem: &Problem,
     route: &[u32],

@@ -1,4 +1,4 @@
--- Lookups among the requests return the first answer of a request.
+-- A lookup among the requests returns the answer of the first request that has one.
 use Rattle.std.proofs.Common.{◌≡◌, ℕ, ◌<◌, true, false, arith, cond, List, [], ◌∷◌, Option, Some, None, refl, sym, ap, subst, ◌∙◌, eqb, inl, inr, nat_eq, IsSome, IfSome}
 use Rattle.std.proofs.lemmas.Bool.Decides.{eqb_tells}
 use Rattle.std.proofs.lemmas.Bool.{eq-eqb, le-ltb}
