@@ -154,9 +154,9 @@ fn small_guess(s: u32) -> u32
     u32::from(ROOTS[cell as usize]) >> (shift / 2)
 }
 
-// Returns a guess from the table and two steps of Newton's method. Up to 2^60 it is the nearest root or the
-// number before it; above that it may be a few lower. A good guess makes the correcting loops short, and no
-// proof rests on it.
+// Returns a guess from the table and two steps of Newton's method. For the square of a distance it is the
+// nearest root or the number before it; above 2^58 it may be a few lower. A good guess makes the correcting
+// loops short, and no proof rests on it.
 fn root_guess(s: u64) -> u64
     ensures { result < 2 ^ 32 }
 {
