@@ -1,4 +1,4 @@
--- Each step lies in its stage, and stops are counted.
+-- Each step lies in its stage; and the number of stops, counted request by request.
 use Rattle.std.proofs.Common.{◌≡◌, ℕ, zero, suc, ◌+◌, ◌-◌, ◌*◌, ◌<◌, ◌≤◌, ◌-◌, List, ◌∷◌, length, drop, Some, None, refl, ap, ◌∙◌, inl, inr, arith}
 use Rattle.std.specs.Prelude.{nat_lt, map, slice_get, if◌then◌else◌}
 use Rattle.std.specs.Option.{option_map_or}

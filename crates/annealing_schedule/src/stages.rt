@@ -19,7 +19,8 @@ pub fn hundredths(stage: u32) -> u32
 }
 
 /// Returns the number of the step with which a stage begins, when all stages together have the steps from `from`
-/// on and below `to`. Stages count from 0; for stage 20 it is `to`, where the last one ends.
+/// on and below `to`. Stages count from 0. For stage 20 the result is `to`, at which stage 19, the last one,
+/// ends.
 pub fn boundary(from: u64, to: u64, stage: u32) -> u64
     requires steps { from ≤ to }
     requires stage { stage ≤ 20 }

@@ -54,7 +54,8 @@ impl<T> Ghost<T> {
         }
     }
 
-    /// Returns a `Ghost` with a value that the caller's proof may choose from this one and from the argument.
+    /// Returns a `Ghost` with the value that the caller's proof chooses, which may depend on this `Ghost` and on
+    /// the argument.
     pub fn after<A: Copy>(&self, _more: A) -> Ghost<T>
         ghost value: { T }
         ensures { result.value ≡ value }

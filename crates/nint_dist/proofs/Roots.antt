@@ -12,7 +12,7 @@ record IsWholeRoot (s r : ℕ) : Type 0 where
   below : r * r ≤ s
   above : s < (r + 1) * (r + 1)
 
--- the whole root of s from that of a quarter of s
+-- the whole part of the root of s, from the whole part of the root of s / 4
 doubled : (s q t r : ℕ) → s ≡ q * 4 + t → t < 4 → IsWholeRoot q r → IsWholeRoot s (doubled_root s r)
 doubled s q t r e h w =
     cond_both (nat_le ((2 * r + 1) * (2 * r + 1)) s) (2 * r + 1) (2 * r) (IsWholeRoot s)

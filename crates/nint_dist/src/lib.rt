@@ -12,9 +12,9 @@
 //! exact half never occurs.
 //!
 //! For a number below 2^22, a table provides a guess, and one product usually shows that the root is the guess
-//! or the next number. For a greater number, a table and two steps of Newton's method provide the guess. There,
-//! and if the product does not confirm the guess, two short loops correct it upward and then downward. The
-//! proofs rest only on the product and the loops, so a wrong guess costs time but not correctness.
+//! or the next number. For a greater number, a table and two steps of Newton's method provide the guess. Two
+//! short loops correct such a guess, and also one that the product does not confirm, upward and then downward.
+//! The proofs rest only on the product and the loops, so a wrong guess costs time but not correctness.
 //!
 //! Proved: `nint_root` returns that smallest `d` for each `u64`, and `dist` returns it for the squared
 //! distance. Every distance of the definition is such a nearest root, including those that no code computes.

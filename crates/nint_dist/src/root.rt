@@ -3,7 +3,8 @@
 ghost use Rattle.std.specs.Prelude.{◌≡◌, ◌+◌, ◌*◌, ◌^◌, ◌≤◌, ◌<◌};
 ghost use Rattle.nint_dist.specs.NearestRoot.{nearest_root, IsNearestRoot};
 
-// The reciprocal square roots of 64/256 to 255/256, in 256ths, with 256 subtracted.
+// Entry i is the reciprocal square root of the middle of the interval from (64+i)/256 to (65+i)/256, in 256ths,
+// with 256 subtracted.
 static RECIPROCAL_ROOTS: [u8; 192] = [
     254, 250, 246, 243, 239, 235, 232, 228, 225, 222, 219, 215, 212, 209, 206, 203, 201, 198, 195,
     192, 190, 187, 184, 182, 179, 177, 175, 172, 170, 168, 165, 163, 161, 159, 157, 155, 153, 151,
@@ -16,8 +17,8 @@ static RECIPROCAL_ROOTS: [u8; 192] = [
     9, 9, 8, 8, 7, 6, 6, 5, 5, 4, 4, 3, 3, 2, 2, 1, 1, 0,
 ];
 
-// Entry i is the square root of the middle of the interval from i/1024 to (i+1)/1024, in 65536ths. Of the
-// entries below 256, only entry 0 is used, for the number 0.
+// From 256 on, entry i is the square root of the middle of the interval from i/1024 to (i+1)/1024, in 65536ths.
+// The entries below 256 are 0; of these only entry 0 is used, for the number 0.
 static ROOTS: [u16; 1024] = [
     0, 0, 0, 0, 0, 0, 0, 0, 0, 0, 0, 0, 0, 0, 0, 0, 0, 0, 0, 0, 0, 0, 0, 0, 0, 0, 0, 0, 0, 0, 0, 0,
     0, 0, 0, 0, 0, 0, 0, 0, 0, 0, 0, 0, 0, 0, 0, 0, 0, 0, 0, 0, 0, 0, 0, 0, 0, 0, 0, 0, 0, 0, 0, 0,
@@ -123,8 +124,8 @@ fn small_root(s: u64) -> u64
     }
 }
 
-// Returns the nearest root of a number that is not small. A function of its own, to keep the code for small
-// numbers short.
+// Returns the nearest root of a number that is not small. This is a separate function, to keep the code for
+// small numbers short.
 #[cold]
 #[inline(never)]
 fn large_root(s: u64) -> u64
@@ -133,7 +134,7 @@ fn large_root(s: u64) -> u64
     correct_root(s, root_guess(s))
 }
 
-// Returns the nearest root, starting from a number close to it.
+// Returns the nearest root by correcting `guess`. The closer the guess is, the shorter this takes.
 #[cold]
 #[inline(never)]
 fn correct_root(s: u64, guess: u64) -> u64
@@ -153,8 +154,9 @@ fn small_guess(s: u32) -> u32
     u32::from(ROOTS[cell as usize]) >> (shift / 2)
 }
 
-// Returns a guess from the table and two steps of Newton's method: the nearest root or the number before it. A
-// good guess makes the correcting loops short, and no proof rests on it.
+// Returns a guess from the table and two steps of Newton's method. For the square of a distance it is the
+// nearest root or the number before it; above 2^58 it may be a few lower. A good guess makes the correcting
+// loops short, and no proof rests on it.
 fn root_guess(s: u64) -> u64
     ensures { result < 2 ^ 32 }
 {

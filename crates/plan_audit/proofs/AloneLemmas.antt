@@ -30,14 +30,14 @@ only_route route other (suc (suc r)) at = absurd (none_some other at)
 pub in_route : (route : List ℕ) (P : List ℕ → Type 0) (r : ℕ) (other : List ℕ) → item_at (route ∷ []) r ≡ Some other → P other → P route
 in_route route P r other at b = subst P (sym (only_route route other r at).1) b
 
--- no pair is split in an only route
+-- no pair is split if there is only one route
 pub not_split : (p : Instance) (route : List ℕ) (r i n : ℕ) → IsSplit p (route ∷ []) r i n → ⊥
 not_split p route r i n b =
     let a = only_route route b.0.0 r b.0.1 in
     let c = only_route route b.1.2.3.0 b.1.2.0 b.1.2.3.1 in
     b.1.2.2 (c.0 ∙ sym a.0)
 
--- no number of a distinct list is at two places
+-- no number is at two places of a list of distinct numbers
 pub item_holds : (P : ℕ → Type 0) (ns : List ℕ) (k n : ℕ) → AllByRecursion P ns → slice_get ns k ≡ Some n → P n
 item_holds P [] k n all at = absurd (none_some n at)
 item_holds P (m ∷ ns) zero n all at = subst P (same_Some m n at) all.0
@@ -98,7 +98,8 @@ module _ (p : Instance) (route : List ℕ) (live : AreDistinctStops p route) whe
   abbrev pub Alone-returned : Option PlaceFault → Type 0
   Alone-returned o = o ≡ late_return_fault p route
 
-  -- if a place is found, the rule is the first broken one
+  -- if rule k is broken at a place, and no rule from 3 on before rule k is broken, rule k is the first broken
+  -- one
   least_alone : (k : Rule) (f : Fault) → 3 ≤ rule_number k → rule_number k ≤ 8 → KeepsBelow 3 (rule_number k) p (alone route)
       → IsLeastOf (Breaks p (alone route) k) (suc f.route) (suc f.place) f.stop → IsFirstBrokenAlone p route k
   least_alone k f from to kept one = (suc f.route, suc f.place, f.stop, least_broken p (alone route) 3 8 k (suc f.route) (suc f.place) f.stop from to kept one)
@@ -144,7 +145,7 @@ module _ (p : Instance) (route : List ℕ) (live : AreDistinctStops p route) whe
             (rule_nothing (IsOverloaded p (route ∷ [])) _ (route ∷ []) (load_rule p (route ∷ []))
             (one_none (place_fault_by (λ _ route i n. visit_fault p (is_overloaded p) route i n)) route l l_is l_no))
 
-        -- without time windows nobody is late
+        -- without time windows nothing is late
         pub untimed_alone : p.kind ≡ Vrp → KeepsRules 3 8 p (alone route)
         untimed_alone kind =
             let late : Keeps p (alone route) Late = λ r i n b. no_windows (b.0) in

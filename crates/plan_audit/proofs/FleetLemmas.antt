@@ -52,7 +52,7 @@ used-cons : (r : List ℕ) (rs : List (List ℕ)) → used_count (r ∷ rs) ≡ 
 unfolding is_used
 used-cons r rs = sum_by-cons is_used r rs
 
--- the number of used routes with another route, used or not
+-- the number of used routes after one more route is added, which is empty or not
 used-empty : (r : List ℕ) (rs : List (List ℕ)) → eqb (length r) 0 ≡ true → used_count (r ∷ rs) ≡ used_count rs
 unfolding is_used
 used-empty r rs e = let none : is_used r ≡ 0 = rw e refl in let step = used-cons r rs in omega arith
@@ -84,7 +84,7 @@ length-take-most zero rs = omega arith
 length-take-most (suc n) [] = omega arith
 length-take-most (suc n) (r ∷ rs) = let rest = length-take-most n rs in omega arith
 
--- up to a used route at least one route is used
+-- among the first routes, up to and including a used one, at least one is used
 used-some : (rs : List (List ℕ)) (y : ℕ) (r : List ℕ) → slice_get rs y ≡ Some r → 0 < length r → 1 ≤ used_count (take (suc y) rs)
 used-some [] y r at some = absurd (none_some r at)
 used-some (x ∷ xs) zero r at some =
@@ -96,12 +96,12 @@ used-some (x ∷ xs) (suc y) r at some =
     let step = used-cons x (take (suc y) xs) in
     omega arith
 
--- the answer at the first of the routes
+-- the answer of `first_route_beyond` for route r followed by the routes rs
 abbrev beyond_step : ℕ → ℕ → List ℕ → List (List ℕ) → Option ℕ
 beyond_step left k r rs =
     cond (eqb (length r) 0) (first_route_beyond left (k + 1) rs) (cond (eqb left 0) (Some k) (first_route_beyond (left - 1) (k + 1) rs))
 
--- the used route for which one vehicle is missing is found
+-- if route y is used and is number `left` + 1 of the used routes, it is the route that is found
 beyond_at : (left k y : ℕ) (rs : List (List ℕ)) (r : List ℕ) → slice_get rs y ≡ Some r → 0 < length r → used_count (take (suc y) rs) ≡ left + 1
     → first_route_beyond left k rs ≡ Some (k + y)
 beyond_at left k y [] r at some is = absurd (none_some r at)

@@ -158,7 +158,7 @@ solutions_pass_where_sound by_name found p routes cost v valid is = (
       (none_beyond p routes good.2) good.3) is),
 )
 
--- a stop of the only route is a stop of the plan
+-- if rules 3 to 8 hold, they also hold for route r as the only route; its stops are stops of the plan
 module _ (p : Instance) (s : Subject) (kept : KeepsRules 3 8 p s) (r : ℕ) (route : List ℕ) (at : item_at (routes_of s) r ≡ Some route) where
   stands_there : (q i n : ℕ) → HasStopAt (route ∷ []) q i n → HasStopAt (routes_of s) r i n
   stands_there q i n t = (route, at, subst (λ (l : List ℕ). item_at l i ≡ Some n) (sym (only_route route t.0 q t.1).1) t.2)

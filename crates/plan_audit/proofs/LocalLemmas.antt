@@ -69,7 +69,7 @@ all_seats P (route ∷ rest) all zero i n sits =
     item_holds P route i n (all_parts P route (concat rest) all).0 (subst (λ (l : List ℕ). slice_get l i ≡ Some n) (sym (same_Some route sits.0 sits.1)) sits.2)
 all_seats P (route ∷ rest) all (suc r) i n sits = all_seats P rest (all_parts P route (concat rest) all).1 r i n sits
 
--- a list of distinct numbers has two parts that share none
+-- two parts of a list of distinct numbers share no number
 distinct_parts : (xs ys : List ℕ) → IsDistinct nat_eq (xs ++ ys)
     → IsDistinct nat_eq xs × IsDistinct nat_eq ys × AllByRecursion (λ x. AllByRecursion (λ y. nat_eq x y ≡ false) ys) xs
 unfolding IsDistinct
@@ -230,7 +230,7 @@ module _ (p : Instance) (routes : List (List ℕ)) where
       let e = once s.0 s.1 t.0 t.1 n s.4 t.4 in
       (s.2 ∙ ap suc e.0 ∙ sym t.2, s.3 ∙ ap suc e.1 ∙ sym t.3)
 
-  -- a property of a route in the plan holds for it as the only route
+  -- if all stops are current and distinct and each route is feasible alone, rules 1 to 8 hold for the plan
   module _ (pins : List (List ℕ)) (once : StandOnce routes) (live : (r i n : ℕ) → Sits routes r i n → IsKnownStop p n)
       (feasible : (r : ℕ) (route : List ℕ) → item_at routes r ≡ Some route → IsFeasibleAlone p route) where
     anywhere : (route : List ℕ) (r : ℕ) → item_at routes r ≡ Some route → (q j n : ℕ) → HasStopAt (route ∷ []) q j n → HasStopAt routes r j n

@@ -21,7 +21,7 @@ holds n (Some m) = elim (eqb_tells m n) as (λ _. IsHolding n (Some m)) [
   | inr t ↦ inr (t.0, λ same. t.1 (same_Some m n same))
 ]
 
--- each place before a place of a list has an item
+-- if place i of a list has an item, each place before it has one, too
 place_before : (ns : List ℕ) (i n j : ℕ) → slice_get ns i ≡ Some n → j < i → (m : ℕ) × (slice_get ns j ≡ Some m)
 place_before [] i n j at lt = absurd (none_some n at)
 place_before (x ∷ ns) zero n j at lt = absurd (omega arith)

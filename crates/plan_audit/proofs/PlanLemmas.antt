@@ -29,7 +29,7 @@ unfolding IsDistinct
 distinct-append [] ys a b apart = b
 distinct-append (x ∷ xs) ys a b apart = (all-append (λ y. nat_eq x y ≡ false) xs ys a.0 apart.0, distinct-append xs ys a.1 b apart.1)
 
--- no number is at two places
+-- if no number is at two places of a list, the numbers of the list are distinct
 apart_from : (n m : ℕ) → (n ≡ m → ⊥) → nat_eq n m ≡ false
 apart_from n m ne = elim (eqb_tells n m) [ inl t ↦ absurd (ne t.1) | inr t ↦ t.0 ]
 

@@ -46,7 +46,7 @@ use Rattle.plan_audit.proofs.FirstLemmas.{none_some}
 use Rattle.plan_audit.proofs.PositionLemmas.{Sits, position_of-found, position_of-none, neither_before}
 use Rattle.plan_audit.proofs.FailingPlaces.{Spot, IsTestOf}
 
--- a stop keeps its position if routes and places count from 0: both numbers are less by 1
+-- if routes and places count from 0 instead of 1, both numbers of a stop's position are less by 1
 pub standing : (routes : List (List ℕ)) (r i n : ℕ) → HasStopAt routes r i n → (q : ℕ) × (j : ℕ) × (r ≡ suc q) × (i ≡ suc j) × Sits routes q j n
 standing routes zero i n t = absurd (none_some t.0 t.1)
 standing routes (suc r) zero n t = absurd (none_some n t.2)

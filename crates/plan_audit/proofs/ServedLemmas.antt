@@ -91,7 +91,7 @@ served_somewhere routes (Pair a b) e nowhere = elim (or_cases (has_stop routes a
   ]
 ]
 
--- a key that is found is among the keys
+-- a property of all keys holds for a key that is found
 found-key : (P : ℕ → Type 0) (es : List (ℕ × Request)) (m : ℕ) (r : Request) → AllByRecursion P (keys_of es) → lookup (nat_eq m) es ≡ Some r → P m
 found-key P [] m r all is = absurd (none_some r is)
 found-key P (e ∷ es) m r all is = elim (eqb_tells m e.0) [

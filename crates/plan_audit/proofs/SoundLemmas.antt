@@ -180,7 +180,7 @@ module _ (found : NamedRequestsAreFound) (p : Instance) (s : Subject) (valid : I
   pub sound_from : IsSoundPlan p (routes_of s)
   sound_from = record { live = live; served = served; loads = loads; windows = windows; returns = returns }
 
--- a pair, by one of its stops
+-- the stops a and b are a pair of the problem; their numbers are n and m, in either order
 IsPairOf : Instance → ℕ → ℕ → Stop → Stop → Type 0
 IsPairOf p n m a b = IsNamed p a.number (Pair a b) × (((a.number ≡ n) × (b.number ≡ m)) ⊎ ((b.number ≡ n) × (a.number ≡ m)))
 

@@ -80,7 +80,7 @@ module _ (p : Instance) (routes : List (List ℕ)) where
   pub plan_where : NoneUnknown → NoneRepeated → IsPlan p routes
   plan_where a b = is_plan p routes (known a) (once b)
 
--- a least violation in the routes is a least violation of the plan or solution with these routes
+-- a first violation in the routes is a first violation of the plan or solution with these routes
 least_of : (s : Subject) (routes : List (List ℕ)) → routes_of s ≡ routes → (B : List (List ℕ) → ℕ → ℕ → ℕ → Type 0) (r i n : ℕ) → IsLeastOf (B routes) r i n
     → IsLeastOf (B (routes_of s)) r i n
 least_of s routes is B r i n one = subst (λ (l : List (List ℕ)). IsLeastOf (B l) r i n) (sym is) one
@@ -213,7 +213,7 @@ module _ (p : Instance) (routes : List (List ℕ)) (s : Subject) (is : routes_of
   timed_step kind a b c =
       keeps_rules p s 6 8 (keeps_more p s 6 LateReturn (after_late kind a b) (none_of s routes is (IsLateReturn p) (late_return_nothing p routes c)))
 
-  -- without time windows nobody is late
+  -- without time windows nothing is late
   pub untimed_step : p.kind ≡ Vrp → NoneOverloaded → KeepsRules 6 8 p s
   untimed_step kind a =
       let late : Keeps p s Late = λ r i n b. no_windows (b.0) in

@@ -57,7 +57,7 @@ use Rattle.plan_audit.proofs.AloneLemmas.{only_route, not_split, in_route}
 use Rattle.plan_audit.proofs.SoundLemmas.{stop_there, stop_within}
 use Rattle.plan_audit.proofs.TimeLemmas.{true_from, positive}
 
--- a test of all items holds for the item at each index
+-- a test that holds for all items holds for the item at each index, and conversely
 pub all_true : {X : Type 0} (test : X → Bool) (xs : List X) → list_all test xs ≡ true → (k : ℕ) (x : X) → slice_get xs k ≡ Some x → test x ≡ true
 all_true test [] all k x at = absurd (none_some x at)
 all_true test (y ∷ xs) all zero x at = subst (λ z. test z ≡ true) (same_Some y x at) (and_parts (test y) (list_all test xs) all).0
@@ -67,7 +67,7 @@ pub true_all : {X : Type 0} (test : X → Bool) (xs : List X) → ((k : ℕ) (x 
 true_all test [] each = refl
 true_all test (y ∷ xs) each = and_from (test y) (list_all test xs) (each zero y refl) (true_all test xs (λ k x at. each (suc k) x at))
 
--- a test of all numbers of a range holds for each of them
+-- a test that holds for a whole range holds for each number in the range, and conversely
 pub range_true : (test : ℕ → Bool) (a n : ℕ) → list_all test (range_with_len a n) ≡ true → (i : ℕ) → a ≤ i → i < a + n → test i ≡ true
 range_true test a zero all i from to = absurd (omega arith)
 range_true test a (suc n) all i from to =

@@ -49,7 +49,7 @@ use Rattle.plan_audit.specs.declared.faults.Fault.{Fault}
 use Rattle.plan_audit.proofs.FirstLemmas.{none_some, fault_found, fault_nothing, least_at}
 use Rattle.plan_audit.proofs.FailingPlaces.{Spot, IsTestOf, IsLeastOf}
 
--- a place of a route counted from 1 is one counted from 0
+-- if the routes and the places of a route count from 0 instead of 1, both numbers are less by 1
 pub standing_in : (routes : List (List ℕ)) (route : List ℕ) (r i n : ℕ) → item_at routes r ≡ Some route → item_at route i ≡ Some n
     → (q : ℕ) × (j : ℕ) × (r ≡ suc q) × (i ≡ suc j) × (slice_get routes q ≡ Some route) × (slice_get route j ≡ Some n)
 standing_in routes route zero i n at on = absurd (none_some route at)
@@ -132,7 +132,7 @@ return_tells : (p : Instance) (route : List ℕ) → 0 < length route → p.depo
     → late_return_fault p route ≡ Some (record { place = length route; stop = 0 })
 return_tells p route some late = rw (nonzero (length route) some, lt-ltb _ _ late) refl
 
--- the index of a route counted from 1
+-- the index of route r, which is less by 1 because routes count from 1
 pub route_in : (routes : List (List ℕ)) (route : List ℕ) (r : ℕ) → item_at routes r ≡ Some route → (q : ℕ) × (r ≡ suc q) × (slice_get routes q ≡ Some route)
 route_in routes route zero at = absurd (none_some route at)
 route_in routes route (suc r) at = (r, refl, at)

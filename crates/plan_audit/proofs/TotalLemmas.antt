@@ -64,7 +64,7 @@ use Rattle.plan_audit.proofs.StepLemmas.{
 }
 use Rattle.plan_audit.proofs.VerdictLemmas.{broken_wider, broken_after, broken_verdict, keeps_both}
 
--- the verdict of a rule that is broken, or else that of the later rules
+-- the verdict by a rule if it is broken, or else the verdict by the later rules
 abbrev or_reported : Option Fault → Rule → Verdict → Verdict
 or_reported None k rest = rest
 or_reported (Some f) k rest = fault_verdict k f

@@ -123,7 +123,7 @@ module _ (p : Instance) (s : Subject) where
   broken_verdict low high (Pass cost) b = absurd b
   broken_verdict low high (Broken rule r i n) b = b
 
-  -- the verdict on all rules is that on the later ones if the earlier ones hold
+  -- if the earlier rules hold, the verdict on all rules is the verdict on the later ones
   pub judged_after : (low mid high : ℕ) (o : Result Cost Verdict) → low ≤ mid + 1 → KeepsRules low mid p s
       → MatchResult o (λ cost. IsVerdictWithin (mid + 1) high p s (Pass cost)) (IsBrokenWithin (mid + 1) high p s)
       → MatchResult o (λ cost. IsVerdictWithin low high p s (Pass cost)) (IsBrokenWithin low high p s)

@@ -28,7 +28,7 @@ pub visits_left : (p : Instance) (route : List ℕ) (k : ℕ) (v : Visit) (befor
     → before ≡ v ∷ after → after ≡ visits_from p route (k + 1)
 visits_left p route k v before after le is step = sym (tails _ _ _ _ (sym (visits_from-step p route k le) ∙ sym is ∙ step))
 
--- the answer at place k, or the first one after it
+-- the first answer from place k on: the answer at place k, or the first one after it
 pub reported_here : (test : ℕ → ℕ → Option ℕ) (k : ℕ) (ns : List ℕ) (s : ℕ) → k < length ns → test k (get_or ns k 0) ≡ Some s
     → first_place_fault test k (drop k ns) ≡ Some (record { place = k; stop = s })
 reported_here test k ns s lt reported =

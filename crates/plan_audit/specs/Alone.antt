@@ -16,6 +16,6 @@ IsFeasibleAlone p route = KeepsRules 3 8 p (alone route)
 abbrev pub IsFirstBrokenAlone : Instance → List ℕ → Rule → Type 0
 IsFirstBrokenAlone p route k = (r : ℕ) × (i : ℕ) × (n : ℕ) × IsFirstBroken 3 8 p (alone route) k r i n
 
--- the number is that of the first of the rules 3 to 8 that the list breaks as the only route
+-- the number of the first of the rules 3 to 8 that the list breaks as the only route
 abbrev pub IsFaultAlone : Instance → List ℕ → ℕ → Type 0
 IsFaultAlone p route number = (k : Rule) × (number ≡ rule_number k) × IsFirstBrokenAlone p route k

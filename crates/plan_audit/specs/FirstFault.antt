@@ -53,7 +53,7 @@ abbrev pub first_fault : (ℕ → List ℕ → Option PlaceFault) → ℕ → Li
 first_fault test k [] = None
 first_fault test k (r ∷ rs) = option_or (option_map (λ t. record { route = k; place = t.place; stop = t.stop }) (test k r)) (first_fault test (k + 1) rs)
 
--- the result is the first answer, and its route and place plus 1 fit a `u64`
+-- the result is the first answer of the test; its route and its place, each plus 1, fit a `u64`
 pub record FindsFirstFault (test : ℕ → List ℕ → Option PlaceFault) (routes : List (List ℕ)) (o : Option Fault) : Type 0 where
   pub reported : o ≡ first_fault test 0 routes
   pub route : IfSome o (λ f. f.route + 1 < 2 ^ 64)
@@ -80,7 +80,7 @@ abbrev pub position_of : List (List ℕ) → ℕ → Option StopPosition
 position_of routes n = position_from n 0 routes
 
 module _ (p : Instance) (routes : List (List ℕ)) where
-  -- the stop that each of the rules 1 to 5 reports for a stop, if any
+  -- for each of the rules 1 to 5: the stop to report if stop n breaks the rule at this position
   abbrev pub unknown_at : ℕ → Option ℕ
   unknown_at n = if is_some (stop_at p n) then None else Some n
 
@@ -153,7 +153,7 @@ abbrev pub late_return_fault : Instance → List ℕ → Option PlaceFault
 late_return_fault p route =
     if (length route == 0) || not (is_too_late (start p route (length route + 1)) p.depot.latest) then None else Some (record { place = length route; stop = 0 })
 
--- the first nonempty route that needs more than `left` vehicles, with routes counted from k
+-- the first nonempty route for which none of `left` vehicles remains, with routes counted from k
 abbrev pub first_route_beyond : ℕ → ℕ → List (List ℕ) → Option ℕ
 first_route_beyond left k [] = None
 first_route_beyond left k (r ∷ rs) = if length r == 0 then first_route_beyond left (k + 1) rs else if left == 0 then Some k else first_route_beyond (left - 1) (k + 1) rs

@@ -24,11 +24,11 @@ SubjectsHaveVerdicts = (verdict : Instance → Subject → Verdict) × ((p : Ins
 abbrev pub RoutesHaveAnswers : Type 0
 RoutesHaveAnswers = (p : Instance) (route : List ℕ) → AreDistinctStops p route → IsFeasibleAlone p route ⊎ ((number : ℕ) × IsFaultAlone p route number)
 
--- law: the test of a route is true exactly if the route is feasible alone
+-- law: the test `feasible_alone` is true exactly if the route is feasible alone
 abbrev pub FeasibleAloneDecidesFeasibility : Type 0
 FeasibleAloneDecidesFeasibility = (p : Instance) (route : List ℕ) → (feasible_alone p route ≡ true) ↔ IsFeasibleAlone p route
 
--- law: the test of a plan is true exactly if its verdict is to pass
+-- law: the test `passes` of a plan is true exactly if the verdict on the plan is to pass
 abbrev pub PassesDecidesTheVerdict : Type 0
 PassesDecidesTheVerdict = (p : Instance) (pins routes : List (List ℕ)) → (passes p pins routes ≡ true) ↔ IsVerdict p (planned routes pins) (Pass (cost_of p routes))
 
@@ -57,14 +57,14 @@ PlansAreDisjointRoutes = (p : Instance) (routes : List (List ℕ)) → IsPlan p 
 abbrev pub PinsAreDistinctStops : Type 0
 PinsAreDistinctStops = (p : Instance) (pins routes : List (List ℕ)) → passes p pins routes ≡ true → All (AreDistinctStops p) pins
 
--- the list can be route r: its stops are distinct and current, it is feasible alone, and it begins with the pin
+-- the list can be route r: its stops are distinct and current, it is feasible alone, and it begins with pin r
 pub record CanBeRoute (p : Instance) (pins : List (List ℕ)) (r : ℕ) (route : List ℕ) : Type 0 where
   pub stops : AreDistinctStops p route
   pub feasible : feasible_alone p route ≡ true
   pub pinned : (pin : List ℕ) → item_at pins r ≡ Some pin → starts_with nat_eq route pin ≡ true
 
--- law: routes of a passing plan may be replaced by lists that can be these routes, if then no stop is in two
--- routes
+-- law: a plan that passes still passes after some of its routes r are replaced by lists that meet `CanBeRoute`
+-- for r, if no stop is in two routes of the new plan
 abbrev pub RoutesMayBeReplaced : Type 0
 RoutesMayBeReplaced = (p : Instance) (pins routes others : List (List ℕ)) → passes p pins routes ≡ true → length others ≡ length routes → ShareNoStop others
     → ((r : ℕ) (route : List ℕ) → item_at others r ≡ Some route → (item_at routes r ≡ Some route) ⊎ CanBeRoute p pins r route)

@@ -70,7 +70,7 @@ IsUnserved p routes n =
 abbrev pub IsWithoutRoute : ℕ → ℕ → Type 0
 IsWithoutRoute r i = (r ≡ 0) × (i ≡ 0)
 
--- 3: printed routes must also serve each request
+-- 3, missing: the other stop of a pair is in no route, or printed routes leave request n unserved
 abbrev pub IsMissingIn : Instance → Subject → ℕ → ℕ → ℕ → Type 0
 IsMissingIn p (planned routes pins) r i n = IsMissing p routes r i n
 IsMissingIn p (printed routes cost) r i n = IsMissing p routes r i n ⊎ (IsWithoutRoute r i × IsUnserved p routes n)
@@ -81,12 +81,12 @@ abbrev pub IsBeyondFleet : Instance → List (List ℕ) → ℕ → ℕ → ℕ 
 IsBeyondFleet p routes r i n =
     (i ≡ 0) × (n ≡ 0) × (used_count (take r routes) ≡ p.fleet + 1) × ((route : List ℕ) × (item_at routes r ≡ Some route) × (0 < length route))
 
--- 9: a plan has one route for each vehicle; no more routes are used than there are vehicles
+-- 9, vehicles: more routes are used than there are vehicles, or a plan does not have one route for each vehicle
 abbrev pub IsFleetBroken : Instance → Subject → ℕ → ℕ → ℕ → Type 0
 IsFleetBroken p (planned routes pins) r i n = IsBeyondFleet p routes r i n ⊎ (IsWithoutRoute r i × (n ≡ 0) × (length routes ≢ p.fleet))
 IsFleetBroken p (printed routes cost) r i n = IsBeyondFleet p routes r i n
 
--- 10: place i is the first at which route r differs from its pin, and n is the pin's stop at place i
+-- 10, pins: place i is the first at which route r differs from its pin, and n is the pin's stop at place i
 abbrev pub IsPinMismatch : List (List ℕ) → List (List ℕ) → ℕ → ℕ → ℕ → Type 0
 IsPinMismatch routes pins r i n =
     let route = unwrap_or (item_at routes r) [] in
@@ -97,7 +97,7 @@ abbrev pub IsPinBroken : Instance → Subject → ℕ → ℕ → ℕ → Type 0
 IsPinBroken p (planned routes pins) r i n = IsPinMismatch routes pins r i n
 IsPinBroken p (printed routes cost) r i n = ⊥
 
--- 11: the printed cost is not the distance
+-- 11, cost: the printed cost is not the distance
 abbrev pub IsCostBroken : Instance → Subject → ℕ → ℕ → ℕ → Type 0
 IsCostBroken p (planned routes pins) r i n = ⊥
 IsCostBroken p (printed routes cost) r i n = IsWithoutRoute r i × (n ≡ 0) × (cost ≢ total_length p routes)
@@ -116,7 +116,7 @@ Breaks p s Fleet r i n = IsFleetBroken p s r i n
 Breaks p s Pin r i n = IsPinBroken p s r i n
 Breaks p s PrintedCost r i n = IsCostBroken p s r i n
 
--- no rule from low to high is broken
+-- no rule with a number from low to high is broken
 abbrev pub KeepsRules : ℕ → ℕ → Instance → Subject → Type 0
 KeepsRules low high p s = (k : Rule) (r i n : ℕ) → low ≤ rule_number k → rule_number k ≤ high → Breaks p s k r i n → ⊥
 
@@ -143,7 +143,7 @@ IsVerdictWithin low high p s (Broken rule r i n) = (k : Rule) × (rule ≡ rule_
 abbrev pub IsVerdict : Instance → Subject → Verdict → Type 0
 IsVerdict = IsVerdictWithin 1 11
 
--- the verdict on routes without a printed cost: that on rules 1 to 10 of a solution with these routes and any
--- cost
+-- the verdict on routes without a printed cost: the verdict on rules 1 to 10 for a solution with these routes,
+-- whatever its cost
 abbrev pub IsRoutesVerdict : Instance → List (List ℕ) → Verdict → Type 0
 IsRoutesVerdict p routes v = (cost : ℕ) → IsVerdictWithin 1 10 p (printed routes cost) v

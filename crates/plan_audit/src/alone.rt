@@ -1,7 +1,7 @@
-//! A list of stops checked as the only route: rules 3 to 8. A pair cannot be split here.
+//! Rules 3 to 8 for a list of stops, as if it were the only route of a plan. A pair cannot be split then.
 //!
-//! This allocates nothing and cannot mark stops in a borrowed problem. So it searches the list for each
-//! partner. The auditor uses a table of first positions instead.
+//! These functions allocate nothing, so unlike an audit they have no table of first positions. They search the
+//! list for each partner instead.
 ghost use Rattle.std.specs.Prelude.{◌≡◌, ◌∷◌, [], ◌<◌, MatchOption};
 ghost use Rattle.route_sched.specs.Route.{AreDistinctStops};
 ghost use Rattle.plan_audit.specs.FirstFault.{first_place_fault, position_of, missing_at, early_delivery_at};
@@ -42,8 +42,8 @@ pub fn is_feasible(problem: &Problem, route: &[u32]) -> bool
     route_fault(problem, route).is_none()
 }
 
-// Returns the first of the rules 3 to 8 that the list breaks as the only route. A pair cannot be split in an
-// only route.
+// Returns the first of the rules 3 to 8 that the list breaks as the only route. A pair cannot be split if there
+// is only one route.
 fn first_broken_alone(problem: &Problem, route: &[u32]) -> Option<Rule>
     requires { AreDistinctStops problem.now route.now }
     ensures { MatchOption result (IsFeasibleAlone problem.now route.now)

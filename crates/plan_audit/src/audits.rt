@@ -87,8 +87,8 @@ pub fn audit_solution(
     Ok(Verdict::Pass(cost))
 }
 
-// Returns the cost of the routes if rules 1 to 8 hold, else the first violation of these. `unserved` is the
-// first request that must be served and is not, if there is one.
+// Returns the cost of the routes if rules 1 to 8 hold, else the first violation of these rules. `unserved` is
+// the first request that must be served and is not, if there is one.
 fn check_all_routes(scan: &Scan, unserved: Option<u32>) -> Result<Cost, Verdict>
     requires { IsInstance scan.now.problem.now }
     ensures judged { (s : Subject) → routes_of s ≡ scan.now.routes.now
@@ -102,7 +102,7 @@ fn check_all_routes(scan: &Scan, unserved: Option<u32>) -> Result<Cost, Verdict>
     check_loads_and_times(scan)
 }
 
-// Returns the cost of the routes if rules 6 to 8 hold, else the first violation of these.
+// Returns the cost of the routes if rules 6 to 8 hold, else the first violation of these rules.
 fn check_loads_and_times(scan: &Scan) -> Result<Cost, Verdict>
     requires { IsPlan scan.now.problem.now scan.now.routes.now }
     ensures judged { (s : Subject) → routes_of s ≡ scan.now.routes.now

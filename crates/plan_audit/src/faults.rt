@@ -1,7 +1,7 @@
 //! The search for the first place that breaks a rule. Routes and places count from 0 here.
 //!
-//! The bound on a reported place (`+ 1 < 2 ^ 64`) is in the clauses, not in a ghost field: the definitions
-//! build these records, and a record with a ghost field can be built only with a proof.
+//! The bound on a reported place (`+ 1 < 2 ^ 64`) is in the clauses, not in a ghost field. The definitions build
+//! the records `PlaceFault` and `Fault`, and a record with a ghost field can be built only with a proof.
 ghost use Rattle.std.specs.Prelude.{◌≡◌, ℕ, ◌+◌, ◌^◌, ◌<◌, List, Option, Contains, IfSome, length};
 ghost use Rattle.plan_audit.specs.FirstFault.{first_place_fault, first_fault};
 ghost use Rattle.std.specs.Borrow.{Bor};
@@ -24,7 +24,8 @@ pub(crate) struct Fault {
     pub stop: u32,
 }
 
-/// Calls the test with each place and its stop, and returns its first answer.
+/// Calls `test` with each place and the stop there. Returns the first place for which `test` returns a stop to
+/// report.
 pub(crate) fn first_place_fault<F: Fn(usize, u32) -> Option<u32>>(
     route: &[u32],
     test: F,
@@ -43,7 +44,7 @@ pub(crate) fn first_place_fault<F: Fn(usize, u32) -> Option<u32>>(
     None
 }
 
-/// Calls the test with each route and its number, and returns its first answer.
+/// Calls `test` with the number and the stops of each route. Returns the first fault that `test` finds.
 pub(crate) fn first_fault<F: Fn(usize, &[u32]) -> Option<PlaceFault>>(
     routes: &[Route],
     test: F,

@@ -1,4 +1,4 @@
-//! Rule 9, on the number of vehicles, for routes that need not be one per vehicle.
+//! Rule 9, on the number of vehicles, for a printed solution. It need not have one route for each vehicle.
 ghost use Rattle.std.specs.Prelude.{◌≡◌, ◌+◌, ◌<◌, ◌^◌, IfSome};
 ghost use Rattle.plan_audit.specs.FirstFault.{first_route_beyond};
 

@@ -27,8 +27,8 @@
 //! `route_fault` and `is_feasible` allocate nothing and search the list for each partner, which takes quadratic
 //! time.
 //!
-//! A plan may leave requests out and has no printed cost. A printed solution has no pins, and a problem of kind
-//! `Vrp` has no times. Rules on these are not checked.
+//! A plan may leave requests out, and has no printed cost to check (rule 11). A printed solution has no pins to
+//! check (rule 10). In a problem of kind `Vrp`, times are not checked (rules 7 and 8).
 //!
 //! Proved: `audit` and `audit_solution` return the verdict (pass with the cost, or the first violation by rule,
 //! route, place and stop), or report that they are out of memory.

@@ -6,7 +6,8 @@ ghost use Rattle.plan_audit.specs.declared.first_positions.StopPosition.{StopPos
 use crate::first_positions::StopPosition;
 use plan_types::Problem;
 
-/// Returns the other stop of the stop's pair if `first_position` finds no position for it.
+/// Returns the partner of `stop`, the other stop of its pair, if `first_position` finds no position for the
+/// partner.
 pub(crate) fn missing_partner<F: Fn(u32) -> Option<StopPosition>>(
     problem: &Problem,
     stop: u32,
@@ -24,7 +25,7 @@ pub(crate) fn missing_partner<F: Fn(u32) -> Option<StopPosition>>(
     }
 }
 
-/// Returns the stop if it is a delivery whose pickup is first at a later place.
+/// Returns the stop if it is a delivery and the first position of its pickup has a later place than `place`.
 pub(crate) fn early_delivery<F: Fn(u32) -> Option<StopPosition>>(
     problem: &Problem,
     place: usize,

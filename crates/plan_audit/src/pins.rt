@@ -1,4 +1,4 @@
-//! Rule 10, on pins. A vehicle without a route has an empty one, and a vehicle without a pin has an empty pin.
+//! Rule 10, on pins. A missing route counts as empty, and so does a missing pin.
 ghost use Rattle.std.specs.Prelude.{◌≡◌, ◌+◌, ◌<◌, ◌^◌, [], IfSome, unwrap_or, slice_get};
 ghost use Rattle.plan_audit.specs.FirstFault.{first_place_fault, first_pin_mismatch, pin_mismatch_at};
 

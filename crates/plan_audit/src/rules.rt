@@ -131,7 +131,7 @@ impl Rule {
         }
     }
 
-    /// Returns the verdict that this rule is broken from this route on.
+    /// Returns the verdict that this rule is broken, with this route and without place and stop.
     pub(crate) fn broken_from(self, route: usize) -> Verdict
         requires { route + 1 < 2 ^ 64 }
         ensures { result ≡ Verdict.Broken (rule_number self) (route + 1) 0 0 }

@@ -1,4 +1,4 @@
-//! Rules 6 to 8, on loads and times. Each is a pass along a route that allocates nothing.
+//! Rules 6 to 8, on loads and times. Each is checked by one pass along each route and without allocating.
 //!
 //! Routes that keep all three rules need only one pass: `cost_within_limits` checks each visit and sums the
 //! distances. If it returns `None`, the rules are checked one after another, so that the first violation is
@@ -152,7 +152,7 @@ fn is_late(visit: &Visit) -> bool
     is_too_late(visit.start, visit.stop.latest)
 }
 
-// Finds the first stop whose visit fails the test.
+// Finds the first stop for whose visit `fails` returns true.
 fn first_visit<F: Fn(Visit) -> bool>(
     problem: &Problem,
     route: &[u32],

@@ -89,7 +89,7 @@ kept_limits p route used feasible =
       ];
     }
 
--- The row of each visit of a route is that of a stop or of the return.
+-- The row of each visit of a route is the row of a stop or of the return.
 pub row_in : (p : Instance) (route : List ℕ) (visits : List StopVisit) (k : ℕ) (d : StopVisit) → visits ≡ stop_visits_of p route → k < length visits → IsRowIn p route (slice_index_or visits k d).row
 row_in p route visits k d are lt =
     let few : length visits ≡ length route + 1 = ap length are ∙ length-map-range_with_len (stop_visit_after p route) 0 (length route + 1) in

@@ -134,7 +134,7 @@ module _ (p : Instance) (route : List ℕ) where
       greatest = λ u timely. at_most i u timely.here (each_on i u timely.following);
     }
 
-    -- the answer of a table, with the window of the place itself
+    -- the latest start by a table, or the latest time of the place itself if that is lower, is `latest_allowed`
     pub limited : (i : ℕ) (t : ℕ) → IsLatestStart p route i t → min (place p route i).latest t ≡ latest_allowed p route i
     limited i t is =
         let less = at_most i (min (place p route i).latest t) (omega arith) (λ k h to. omega (arith, each_on i t is.continues_within_limits k h to)) in

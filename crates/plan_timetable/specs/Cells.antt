@@ -13,12 +13,12 @@ abbrev pub number : Form → ℕ → ℕ → List ℕ
 number Columns width n = codes " " ++ right width n
 number Tabs width n = codes "\t" ++ decimal n
 
--- a load, in a column of 8
+-- a load, in a column of width 8
 abbrev pub load_cell : Form → ℤ → List ℕ
 load_cell Columns load = codes " " ++ right_signed 8 load
 load_cell Tabs load = codes "\t" ++ signed_decimal load
 
--- a number that may be missing, in a column of 8
+-- a number, or `-` if there is no number, in a column of width 8
 abbrev pub optional_number : Form → Option ℕ → List ℕ
 optional_number form None = word form Nothing
 optional_number form (Some n) = number form 8 n

@@ -60,7 +60,7 @@ abbrev pub pin_word : Bool → Word
 pin_word true = PinMayEnd
 pin_word false = PinMayNotEnd
 
--- the vehicle, the place and the stop
+-- the place and the stop; with tabs, the vehicle before them
 abbrev pub place_text : Form → ℕ → Entry → List ℕ
 place_text form v e = line_prefix form v ++ number form 5 e.visit.row.place ++ number form 5 e.visit.row.stop
 
@@ -75,7 +75,7 @@ times_text form e = number form 8 (departure e.visit) ++ number form 8 e.visit.r
 abbrev pub window_text : Form → Entry → List ℕ
 window_text form e = number form 8 e.visit.service ++ number form 8 e.visit.row.earliest ++ number form 8 e.visit.row.latest ++ optional_number form e.latest
 
--- the times of a place; a problem of kind `Vrp` has none
+-- the times of a place; in a problem of kind `Vrp` only the arrival
 abbrev pub when_text : Form → Kind → Entry → List ℕ
 when_text form LiLim e = times_text form e ++ window_text form e
 when_text form Vrp e = number form 8 e.visit.row.arrival

@@ -30,7 +30,7 @@ pub(crate) fn put_number(text: &mut TextBuffer, form: Form, width: usize, n: u64
     }
 }
 
-/// Appends a load to a line, in a column of 8.
+/// Appends a load to a line, in a column of width 8.
 pub(crate) fn put_load(text: &mut TextBuffer, form: Form, load: i64)
     ensures { text.new ≡ text.old ++ load_cell form load }
 {
@@ -46,7 +46,7 @@ pub(crate) fn put_load(text: &mut TextBuffer, form: Form, load: i64)
     }
 }
 
-/// Appends a number, or the sign for none, to a line, in a column of 8.
+/// Appends a number to a line, or `-` if there is no number, in a column of width 8.
 pub(crate) fn put_optional_number(text: &mut TextBuffer, form: Form, n: Option<u64>)
     ensures { text.new ≡ text.old ++ optional_number form n }
 {

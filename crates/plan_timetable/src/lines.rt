@@ -65,7 +65,7 @@ fn role_word(role: Role) -> Word
     }
 }
 
-// Appends the times of a place. A problem of kind `Vrp` has no times.
+// Appends the times of a place. In a problem of kind `Vrp` this is only the arrival.
 fn put_when(text: &mut TextBuffer, form: Form, kind: Kind, entry: &Entry)
     ensures { text.new ≡ text.old ++ when_text form kind entry.now }
 {

@@ -11,8 +11,9 @@ use plan_types::{OutOfMemory, Problem};
 use sol_text::Solution;
 use std::alloc::Global;
 
-/// Returns the timetable of a printed solution with this verdict, which has no pins, and with the names of the
-/// unplanned requests. It is empty if a stop is unknown or appears twice, since the schedule is not known then.
+/// Returns the timetable of a printed solution, which has no pins, with its `verdict` and the names of its
+/// unplanned requests. The timetable is empty if a stop is unknown or appears twice, since the schedule is not
+/// known then.
 pub fn solution_timetable(
     alloc: Global,
     problem: &Problem,

@@ -16,9 +16,9 @@ use text_buffer::TextBuffer;
 /// stop and for the return. Then it has each of these unplanned requests, by name, and why it is in no route
 /// (see `request_explanation`). Vehicles and places count from 1, in the order of the routes.
 ///
-/// Times and distances are in the problem's unit, loads in the unit of its demands. The stops of each route
-/// must be known and distinct; the route may break any other rule. No unplanned request is tried before the end
-/// of a pin.
+/// Times and distances are in the problem's unit, loads in the unit of its demands. The stops of each route must
+/// be known and distinct; the route may break any other rule. For the reasons, an unplanned request is tried
+/// only at places after the pin of a route.
 pub fn timetable(
     alloc: Global,
     problem: &Problem,

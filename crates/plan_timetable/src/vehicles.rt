@@ -117,7 +117,7 @@ fn put_line_end(text: &mut TextBuffer, form: Form, kind: Kind, summary: &Summary
     text.push_str("\n");
 }
 
-// Appends departure, return and waiting time. A problem of kind `Vrp` has no times.
+// Appends departure, return and waiting time, or nothing in a problem of kind `Vrp`.
 fn put_day(text: &mut TextBuffer, form: Form, kind: Kind, summary: &Summary)
     ensures { text.new ≡ text.old ++ day_text form kind summary.now }
 {

@@ -4,7 +4,7 @@ ghost use Rattle.plan_timetable.specs.Words.{in_form, word};
 
 use crate::forms::Form;
 
-/// A word before a number, instead of one, or on a line of its own.
+/// A word before a number, instead of a number, or on a line of its own.
 #[derive(Clone, Copy)]
 pub(crate) enum Word {
     Vehicle,

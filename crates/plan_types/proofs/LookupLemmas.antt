@@ -1,4 +1,4 @@
--- Lookups among the requests return the first answer of a request.
+-- A lookup among the requests returns the answer of the first request that has one.
 use Rattle.std.proofs.Common.{◌≡◌, ℕ, ◌<◌, true, false, arith, cond, List, [], ◌∷◌, Option, Some, None, refl, sym, ap, subst, ◌∙◌, eqb, inl, inr, nat_eq, IsSome, IfSome}
 use Rattle.std.proofs.lemmas.Bool.Decides.{eqb_tells}
 use Rattle.std.proofs.lemmas.Bool.{eq-eqb, le-ltb}
@@ -54,7 +54,7 @@ option_map-const : {X Y Z : Type 0} (g : X → Y) (z : Z) (back : Y → Z) (is :
 option_map-const g z back is None = refl
 option_map-const g z back is (Some x) = ap Some (sym (is x))
 
--- the stop and the name are those of the table's entry
+-- the stop and the name that lookups find are those of the table's entry
 pub stop_from_located : (es : List (ℕ × Request)) (n : ℕ) → first_some (stop_in n) es ≡ option_map (λ l. l.stop) (first_some (entry_in n) es)
 stop_from_located es n = first_some-map (λ l. l.stop) (entry_in n) (stop_in n) (λ r. option_map-id _ (λ l. l.stop) (λ x. refl) (stop_in n r)) es
 
@@ -81,7 +81,7 @@ first_some-holds f P Q each (e ∷ es) x all is = by (f e.1) refl (λ h. first_s
     by None o rest = rest (let h : option_or (f e.1) (first_some f es) ≡ Some x = is in rw o at h)
     by (Some y) o rest = each e.1 x all.0 (o ∙ (let h : option_or (f e.1) (first_some f es) ≡ Some x = is in rw o at h))
 
--- the first answer is the element itself if it has the number searched for
+-- the answer is s if its number a is n, else the answer of o; a property of both is a property of the answer
 chosen : {X : Type 0} (a n : ℕ) (s : X) (o : Option X) (Q : X → Type 0) (x : X) → (a ≡ n → Q s) → (o ≡ Some x → Q x) → cond (eqb a n) (Some s) o ≡ Some x → Q x
 chosen a n s o Q x here there is = elim (eqb_tells a n) [
   | inl t ↦ let e : cond (eqb a n) (Some s) o ≡ Some x = is in let h : s ≡ x = (let g : Some s ≡ Some x = (rw t.0 at e) in cc) in subst Q h (here t.1)
@@ -227,7 +227,7 @@ found-with_entry p r n f asks free split =
 pub take-overwritten : {X : Type 0} (n : ℕ) (xs ys : List X) → length xs ≡ n → take n (xs ++ drop (length xs) ys) ≡ xs
 take-overwritten n xs ys is = ap (λ m. take m (xs ++ drop (length xs) ys)) (sym is) ∙ take-append_seam xs (drop (length xs) ys)
 
--- a request that is found is one of the requests
+-- what holds for all names holds for the name of a request that is found
 found-name : (f : Request → Option Request) (own : (r q : Request) → f r ≡ Some q → q ≡ r) (es : List (ℕ × Request)) (r : Request) (P : ℕ → Type 0)
     → AllByRecursion (λ e. e.0 ≡ request_name e.1) es → AllByRecursion P (keys_of es) → first_some f es ≡ Some r → P (request_name r)
 found-name f own [] r P named all is = absurd (none_some r is)
@@ -312,7 +312,7 @@ lookup-name_at p n name valid is = by (request_with p n) refl
         let same : request_name r ≡ name = (let g : Some (request_name r) ≡ Some name = sym (ap (option_map request_name) h) ∙ is in cc) in
         subst (λ m. lookup (nat_eq m) p.requests ≡ Some r) same (lookup-request_with p n r valid h)
 
--- the table's entry says what the request says
+-- if `of_entry` answers for an entry what `of_request` answers for its request, the lookups by both agree
 module _ {X : Type 0} (n : ℕ) (of_request : Request → Option X) (of_entry : StopEntry → Option X)
     (same : (r : Request) (s : Stop) → stop_in n r ≡ Some s
     → of_request r ≡ of_entry (record { name = request_name r; partner = partner_in n r; stop = s })) where

@@ -68,7 +68,7 @@ pub record IsInstance (p : Instance) : Type 0 where
   pub next_number_min : 1 ≤ p.next_number
   pub next_number_max : p.next_number ≤ 40001
 
--- the request has the number of a stop of the problem
+-- one of the request's numbers is the number of a stop of the problem
 abbrev pub IsTaken : Instance → Request → Type 0
 IsTaken p (Single s) = IsSome (stop_at p s.number)
 IsTaken p (Pair a b) = IsSome (stop_at p a.number) ⊎ IsSome (stop_at p b.number)

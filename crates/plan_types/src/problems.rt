@@ -158,7 +158,8 @@ impl Problem {
 
     /// Adds a request under its name and raises `next_number` above its numbers.
     ///
-    /// `Range` comes before `Taken`, and `Taken` before `OutOfMemory`. On an error the problem is unchanged.
+    /// If several errors apply, returns `Range` before `Taken`, and `Taken` before `OutOfMemory`. On an error
+    /// the problem is unchanged.
     // This function is inlined, and so are those that it calls before the map is reached. Otherwise each field
     // of a request would pass through memory.
     #[inline(always)]
@@ -195,8 +196,8 @@ impl Problem {
         Ok(())
     }
 
-    /// Removes the request with this name, and no other. `next_number` stays, so its numbers are not reused.
-    /// Does not allocate.
+    /// Removes the request with this name, and no other. `next_number` stays, so the numbers of the request are
+    /// not reused. Does not allocate.
     pub fn take(&mut self, name: u32) -> Option<Request>
         ensures taken { result ≡ lookup (nat_eq name) self.old.requests }
         ensures after { self.new ≡ without_request self.old name }
@@ -337,8 +338,8 @@ fn add_to_table(by_number: &mut [Option<StopEntry>], request: &Request)
     match request {
         Request::Single(stop) => set_entry(by_number, name, None, stop),
         Request::Pair(pickup, delivery) => {
-            // If both stops had the same number, the later entry would replace the earlier one. The pickup is
-            // entered last, since the definition takes the pickup first, too.
+            // If both stops had the same number, the entry made last would stay. The pickup is entered last,
+            // since in the definition the pickup has priority, too.
             set_entry(by_number, name, Some(pickup.number), delivery);
             set_entry(by_number, name, Some(delivery.number), pickup);
         }

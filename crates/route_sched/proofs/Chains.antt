@@ -1,4 +1,4 @@
--- The greatest of the sums that end at one place, from one place to the next.
+-- The greatest of the sums that end at a place, from the greatest of those that end at the place before.
 use Rattle.std.proofs.Common.{◌≡◌, ℕ, zero, suc, ◌+◌, ◌-◌, ◌≤◌, max, map, refl, sym, ap, ◌∙◌, arith, add-one, subst}
 use Rattle.std.specs.List.{range_with_len}
 use Rattle.std.proofs.lemmas.List.Sums.{fold_push}

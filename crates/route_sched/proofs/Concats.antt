@@ -17,7 +17,7 @@ concat_split routes k h =
     ap concat (sym (take-append-drop k routes))
     ∙ (concat-append (take k routes) (drop k routes) ∙ ap (λ rs. concat (take k routes) ++ concat rs) (drop_more routes k [] h))
 
--- with one more route, the joined routes get the stops of this route at their end
+-- joining one more route appends its stops to the joined routes
 pub concat_more : (routes : List (List ℕ)) (k : ℕ) → k < length routes → concat (take (k + 1) routes) ≡ concat (take k routes) ++ get_or routes k []
 concat_more routes k h =
     ap concat (take_more routes k [] h)

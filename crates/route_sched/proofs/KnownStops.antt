@@ -72,7 +72,7 @@ unfolding place
 place-return p route k h =
     let none : get_or route k 0 ≡ 0 = get_or_past route k 0 h in rw (add-one k, none) refl
 
--- the stop at a place is the one with its number
+-- the stop at a place is the stop with the number that the route has there
 pub place-stop : (p : Instance) (route : List ℕ) (k n : ℕ) (s : Stop) → n ≡ get_or route k 0 → stop_at p n ≡ Some s → s.number ≡ n → IsStop s
     → place p route (k + 1) ≡ s
 unfolding place

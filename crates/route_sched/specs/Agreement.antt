@@ -4,7 +4,7 @@ use Rattle.plan_types.specs.Instance.{Instance, stop_at}
 use Rattle.route_sched.specs.Route.{place}
 use Rattle.route_sched.specs.Schedule.{start, load, route_length}
 
--- the same depot, and for each of these numbers the same stop or none
+-- both problems have the same depot, and for each of these numbers the same stop, or both have none
 pub record AgreeOn (p q : Instance) (numbers : List ℕ) : Type 0 where
   pub depot : p.depot ≡ q.depot
   pub stops : All (λ n. stop_at p n ≡ stop_at q n) numbers

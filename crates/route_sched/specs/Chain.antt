@@ -1,5 +1,5 @@
--- The greatest of the sums that end at one place. A start of service is such a value, for a route or for any
--- sequence of stops.
+-- The greatest of the sums that end at one place. Each start of service is such a greatest sum, in a route or in
+-- any other sequence of stops.
 use Rattle.std.specs.Prelude.{ℕ, ◌+◌, ◌-◌, map, sum}
 use Rattle.std.specs.List.{range_with_len}
 use Rattle.route_sched.specs.Schedule.{greatest}

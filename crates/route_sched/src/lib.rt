@@ -2,7 +2,7 @@
 //! cost of a plan.
 //!
 //! Modules, in reading order:
-//! - `places`: the stop at each place of a route. The depot is before the first place and after the last one.
+//! - `places`: the stop at each place of a route. The depot is at place 0 and again after the last stop.
 //! - `visits`: an iterator over the places of a route, with start, load and leg at each.
 //! - `schedule`: the starts, loads and distance of a route.
 //! - `cost`: the cost of a plan.
@@ -13,9 +13,9 @@
 //! earliest time. A distance of d takes d units of time. A vehicle that arrives early waits. All numbers are
 //! whole.
 //!
-//! By definition, the start at a place is the greatest value, over all places up to it, of the earliest time at
-//! that place plus the time from that place on without waiting. The code goes from place to place instead and
-//! computes each waiting time with one `max`.
+//! By definition, the start at place i is the greatest value, over all places j up to i, of the earliest time at
+//! j plus the time from j to i without waiting. The code goes from place to place instead and computes each
+//! waiting time with one `max`.
 //!
 //! A request is counted as planned at its single stop, at its pickup, or at a delivery whose pickup is in no
 //! route. `plan_cost` allocates nothing, so it searches for the pickup of each delivery, first in the

@@ -26,7 +26,7 @@ in_cases x xs y c = elim (Contains-append_cases (x ∷ []) xs y c) [
 pub in_tail : {X : Type 0} (x : X) (xs : List X) (y : X) → Contains xs y → Contains (x ∷ xs) y
 in_tail x xs y c = Contains-append_right (x ∷ []) xs y c
 
--- an item of an option as a list is the item of the option
+-- if an option is turned into a list, each item of the list is the item of the option
 pub in_option : {X : Type 0} (o : Option X) (x : X) → Contains (option_to_list o) x → o ≡ Some x
 in_option None x c = absurd (in_nothing x c)
 in_option (Some y) x c = ap Some (in_one y x c)
@@ -45,7 +45,7 @@ all_at P (x ∷ xs) y all c = elim (in_cases x xs y c) [
   | inr rest ↦ all_at P xs y all.1 rest
 ]
 
--- two ascending lists make one if each item of the first comes before each item of the second
+-- two ascending lists make one ascending list if each item of the first comes before each item of the second
 pub ascending_append : (xs ys : List Violation) → AreAscending xs → AreAscending ys → ((x y : Violation) → Contains xs x → Contains ys y → IsBefore x y) → AreAscending (xs ++ ys)
 ascending_append [] ys up up' before = up'
 ascending_append (x ∷ xs) ys up up' before = (

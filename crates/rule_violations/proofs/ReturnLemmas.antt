@@ -22,7 +22,7 @@ module _ (p : Instance) (routes : List (List ℕ)) where
   over : List ℕ → ℕ
   over route = start p route (length route + 1) - p.depot.latest
 
-  -- the return of route r, counted from 0, if it is too late
+  -- the violation by a late return of route r, counted from 0
   reported_at : ℕ → List ℕ → Violation
   reported_at r route = record { route = suc r; place = length route + 1; stop = 0; by = start p route (length route + 1) - p.depot.latest }
 

@@ -76,7 +76,7 @@ found_in n (e ∷ es) r is = by (stop_in n e.1) refl (λ h. found_in n es r h)
         same_Some _ _ (ap (λ o. option_or (option_map (λ _. e.1) o) (first_some (λ r. option_map (λ _. r) (stop_in n r)) es)) (sym at) ∙ is) in
         subst (λ (r : Request). IsSome (stop_in n r)) same (ap is_some at)
 
--- the stop of a single request, and those of a pair
+-- if a lookup of n finds the stop of a single request, n is the number of the stop
 single_number : (n : ℕ) (s : Stop) → IsSome (stop_in n (Single s)) → s.number ≡ n
 single_number n s some = elim (eqb_tells s.number n) [
   | inl t ↦ t.1

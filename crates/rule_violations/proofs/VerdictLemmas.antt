@@ -110,7 +110,7 @@ first_is B (b ∷ more) a all is least = elim (in_cases b more a (((all.each) a)
     ]
 
 module _ (lists : ListsHoldAllViolations) (p : Instance) (routes : List (List ℕ)) (cost : ℕ) (valid : IsInstance p) where
-  -- for a rule after rule 3: no stop is repeated if no earlier rule is broken
+  -- if no rule before rule k is broken, and k is after rule 3, no stop is repeated
   once_from : (k : Rule) → 3 < rule_number k → ((m : Rule) (r i n : ℕ) → rule_number m < rule_number k → Breaks p (printed routes cost) m r i n → ⊥)
       → HasNoRepeatedStop p routes
   once_from k lt kept r i n b = kept VisitedTwice r i n (omega arith) b

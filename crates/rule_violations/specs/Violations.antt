@@ -20,7 +20,7 @@ use Rattle.rule_violations.specs.declared.positions.StopPosition.{StopPosition}
 abbrev pub violation_if : Bool → StopPosition → ℕ → ℕ → Option Violation
 violation_if holds position n by = if holds then Some (record { route = position.route; place = position.place; stop = n; by = by }) else None
 
--- the position of place i of route k, both counted from 1
+-- place i of route k as a position, in which route and place count from 1
 abbrev pub position_at : ℕ → ℕ → StopPosition
 position_at k i = record { route = k + 1; place = i + 1 }
 

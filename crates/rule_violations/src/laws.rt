@@ -11,8 +11,8 @@ pub fn lists_hold_all_violations()
     ensures { ListsHoldAllViolations }
 {}
 
-/// Proves that a verdict `Broken` on printed routes with one of these rules reports the first violation of the
-/// rule's list, and that the lists of the earlier rules are empty.
+/// Proves that a verdict `Broken` on printed routes with one of the rules 1 to 8 reports the first violation of
+/// the rule's list, and that the lists of the earlier rules are empty.
 pub fn verdicts_report_first_violations()
     ensures { VerdictsReportFirstViolations }
 {

@@ -11,7 +11,7 @@ use plan_types::{OutOfMemory, Problem, Route};
 use route_sched::{Visit, Visits};
 use std::alloc::Global;
 
-/// Returns the violations of routes that return too late.
+/// Returns the violations by vehicles that return too late.
 pub(crate) fn return_violations(
     alloc: Global,
     problem: &Problem,
@@ -30,7 +30,7 @@ pub(crate) fn return_violations(
     Ok(found)
 }
 
-// Returns the violation of a route that returns too late.
+// Returns the violation if the vehicle of this route returns too late.
 fn return_violation(problem: &Problem, number: usize, route: &[u32]) -> Option<Violation>
     requires once { AreDistinctStops problem.now route.now }
     requires fits { number + 1 < 2 ^ 64 }

@@ -112,7 +112,7 @@ fn stop_violation(
     }
 }
 
-// Returns whether the stop has a first position, and it is not this one.
+// Returns whether the stop has a first position, and that is not this position.
 fn is_repeated(position: StopPosition, first: Option<StopPosition>) -> bool
     ensures { result ≡ is_repeated position first }
 {

@@ -1,4 +1,4 @@
--- A text that is written reads back.
+-- A written text reads back as the routes and the cost that were written.
 use Rattle.std.proofs.Common.{◌≡◌, ℕ, ◌+◌, ◌-◌, ◌≤◌, ◌<◌, ◌^◌, Bool, true, false, not, cond, eqb, List, [], ◌∷◌, ◌++◌, length, get_or, map, Some, None, Ok, inl, inr, refl, sym, ap, ◌∙◌, arith}
 use Rattle.std.specs.Prelude.{codes, nat_le, ◌↔◌}
 use Rattle.std.specs.Char.{is_ascii_digit}
@@ -226,7 +226,7 @@ module _ (ended : LinesEndAtFeeds) (made_of : (line : List ℕ) (words : List (L
   unfolding cost_text printable
   cost_printable cost fits = printable-append (codes "Cost ") (decimal cost) refl (decimal_printable cost fits)
 
-  -- the text of some routes and a cost reads back as these
+  -- the text of some routes and a cost reads back as these routes and this cost
   reading-written : (k number : ℕ) (routes : List (List ℕ)) (cost : ℕ) → number + length routes < 2 ^ 64 → AreSmall routes → cost < 2 ^ 64
       → reading k (lines_of (routes_text number routes ++ (cost_text cost ++ 10 ∷ []))) ≡ Ok (record { routes = routes; cost = cost })
   unfolding reading

@@ -1,4 +1,4 @@
--- Route lines and cost lines: from the rest after each part to the parts, and back.
+-- The parts of route lines and of cost lines determine the rest of the line after each part, and conversely.
 use Rattle.std.proofs.Common.{
   ◌≡◌,
   ℕ,
@@ -228,7 +228,7 @@ route_line_from_tail line tail is =
 blanks_append : (a b : List ℕ) → is_blank_line a ≡ true → is_blank_line b ≡ true → is_blank_line (a ++ b) ≡ true
 blanks_append a b p q = list_all-append is_blank a b ∙ and_from (is_blank_line a) (is_blank_line b) p q
 
--- blanks, an optional mark, and blanks, before a byte that is neither
+-- the rest after blanks, an optional mark and blanks, if it begins neither with a blank nor with the mark
 after_mark_is : (mark : ℕ) (gap front gap2 rest : List ℕ) → is_blank mark ≡ false → is_blank_line gap ≡ true → IsOptionalMark mark front → is_blank_line gap2 ≡ true
     → StartsOther is_blank rest → after_optional_mark mark rest ≡ rest → after_blanks (after_optional_mark mark (after_blanks (gap ++ (front ++ (gap2 ++ rest))))) ≡ rest
 after_mark_is mark gap front gap2 rest solid blank (inl none) blank2 other unmarked =
@@ -352,7 +352,7 @@ word_no_colon : (word rest : List ℕ) → IsWord word → begins_with_colon wor
 word_no_colon [] rest is bare = absurd (omega (arith, is.0))
 word_no_colon (b ∷ word) rest is bare = rw bare refl
 
--- the rest after a separator: a colon, or blanks before a byte that is neither
+-- the rest after a separator, which is blanks, a colon, or blanks and a colon
 separated_tail : (gap colon x y : List ℕ) → is_blank_line gap ≡ true → IsOptionalMark 58 colon → 0 < length (gap ++ colon)
     → after_optional_mark 58 (after_blanks (gap ++ (colon ++ x))) ≡ y → after_separator (gap ++ (colon ++ x)) ≡ Some y
 separated_tail [] colon x y blank (inl none) some is = absurd (omega (arith, ap length none))

@@ -31,7 +31,7 @@ raise line rest k BadNumber no_cost h = ((omega (arith, h.0.0), (no_cost, h.0.1)
 raise line rest k NoCost no_cost h = (omega (arith, h.0), (no_cost, h.1))
 raise line rest k OutOfMemory no_cost h = h
 
--- a line has the faults of its kind
+-- if the shape of a line is a fault of this kind, lines that begin with this line have the fault at place 0
 at_head : (line : List ℕ) (rest : List (List ℕ)) (kind : SolFaultKind) → IsOfKind (is_blank_line line) (route_tail line) (cost_word line) kind
     → FaultInLines (line ∷ rest) 0 kind
 at_head line rest BadLine h = ((omega arith, tt), h)

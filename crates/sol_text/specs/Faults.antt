@@ -21,7 +21,7 @@ has_bad_number line =
     if is_route_line line then option_map_or (list_any (λ word. is_none (customer_of word))) (customer_words line) false
     else option_map_or (λ word. is_none (cost_of word)) (cost_word line) false
 
--- the line at this place, counted from 0, counts: no line before it is a cost line
+-- the line at this place, counted from 0, is read: no line before it is a cost line
 abbrev pub LineCounts : List (List ℕ) → ℕ → Type 0
 LineCounts lines k = (k < length lines) × AllByRecursion (λ line. is_cost_line line ≡ false) (take k lines)
 

@@ -56,7 +56,7 @@ fn read_route(alloc: Global, number: u64, tail: &[u8]) -> Result<Line, SolFault>
     Ok(Line::Route(Route::from(customers)))
 }
 
-// Parses a line that can only be a cost line.
+// Parses a line that is neither blank nor a route line, and so must be a cost line.
 fn read_cost(number: u64, line: &[u8]) -> Result<Line, SolFault>
     ensures { Returns result (cost_line number (cost_word line.now)) }
 {

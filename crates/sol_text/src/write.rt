@@ -20,7 +20,7 @@ use text_lines::{decimals_parse_back, lines_end_at_line_feeds, lines_split_into_
 ///
 /// # Errors
 ///
-/// Returns `Unplanned` if a request is in no route, then `OutOfMemory`.
+/// Returns `Unplanned` if a request is in no route, otherwise `OutOfMemory` if an allocation fails.
 pub fn write_sol(alloc: Global, problem: &Problem, plan: &Plan) -> Result<Vec<u8>, WriteSolFault>
     requires { IsPlan problem.now plan.now.routes }
     ensures text { IfOk result (λ text. text.items

@@ -56,7 +56,7 @@ pub drop_after : (xs : List ℕ) (y : ℕ) (ys : List ℕ) → drop (suc (length
 drop_after [] y ys = refl
 drop_after (x ∷ xs) y ys = drop_after xs y ys
 
--- no place has a line feed
+-- no place of the piece has a line feed
 no_feed_at : (piece : List ℕ) → HasNoLineFeed piece → (j : ℕ) → j < length piece → get_or piece j 0 ≡ 10 → ⊥
 no_feed_at piece none j h here = none (j, h, get_or_default piece j 10 0 h ∙ here)
 
@@ -77,7 +77,7 @@ pub end_with_text : LastLineEndsWithText
 unfolding lines_of
 end_with_text piece none some = ap (λ ps. map strip_carriage_return ps) (pieces_whole piece some (no_feed_at piece none))
 
--- pieces that end at line feeds end with one
+-- one or more pieces, each followed by a line feed, end with a line feed
 ends_with_feed : (p : List ℕ) (ps : List (List ℕ)) → (text : List ℕ) × (flat_map with_line_feed (p ∷ ps) ≡ text ++ 10 ∷ [])
 ends_with_feed p [] = (p, append-nil (p ++ 10 ∷ []))
 ends_with_feed p (q ∷ ps) = more (ends_with_feed q ps)

@@ -27,7 +27,7 @@ with_sign-append : (negative : Bool) (xs ys : List ℕ) → with_sign negative (
 with_sign-append true xs ys = refl
 with_sign-append false xs ys = refl
 
--- a text that is a minus or none, digits, and a rest that ends the word begins with this number
+-- if a text is a minus or no sign, then digits, then a rest that ends the word, the text begins with this number
 pub begins_with_number : (text body digits rest : List ℕ) (negative : Bool) (len : ℕ) → negative ≡ starts_with_minus text → body ≡ without_minus text
     → list_all is_ascii_digit (take len body) ≡ true → digits ≡ take len body → rest ≡ drop len body → (length digits ≡ 0 → ⊥) → EndsWord rest
     → BeginsWithNumber text (signed negative (digits_value 10 digits)) rest

@@ -85,7 +85,7 @@ fn is_blank_byte(byte: u8) -> bool
     byte == b' ' || byte == b'\t'
 }
 
-// Returns the number of bytes before the first blank.
+// Returns the number of bytes before the first blank, or of all bytes if there is no blank.
 fn word_len(text: &[u8]) -> usize
     ensures { result ≡ position_or_len is_blank text.now }
 {

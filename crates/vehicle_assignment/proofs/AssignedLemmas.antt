@@ -1,5 +1,5 @@
--- The assigned routes are those of the solution, each as often as there, and each begins with the pin of its
--- vehicle.
+-- The assigned routes are the routes of the solution, each as often as in the solution, and each begins with the
+-- pin of its vehicle.
 use Rattle.std.proofs.Common.{◌≡◌, ℕ, zero, suc, ◌+◌, ◌-◌, ◌≤◌, ◌==◌, true, false, cond, not, eqb, nat_eq, List, [], ◌∷◌, ◌++◌, length, drop, replicate, refl, sym, ap, subst, ◌∙◌, arith}
 use Rattle.std.proofs.Common.{Option, Some, None, Result, Ok, Err}
 use Rattle.std.specs.Prelude.{IfOk, IfSome}
@@ -123,7 +123,7 @@ length_filled ([] ∷ assigned) routes = let rest = length_filled assigned (drop
 length_filled ((n ∷ ns) ∷ assigned) routes =
     let step = ap length (stays (n ∷ ns) routes (some_stops n ns) assigned) in let rest = length_filled assigned routes in omega (arith, step, rest)
 
--- an empty route has an empty pin
+-- if an empty route begins with a pin, the pin is empty, and every route begins with it
 no_pin : (route pin : List ℕ) → starts_with nat_eq [] pin ≡ true → starts_with nat_eq route pin ≡ true
 no_pin route [] begins = refl
 no_pin route (n ∷ ns) begins = absurd (let h : false ≡ true = begins in cc)

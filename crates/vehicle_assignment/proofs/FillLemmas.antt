@@ -14,7 +14,7 @@ pub none_left : (fleet : ℕ) (assigned : List (List ℕ)) → fleet ≤ length 
 none_left fleet assigned all = let none : fleet - length assigned ≡ 0 = omega (arith, all) in ap (λ n. assigned ++ replicate n []) none ∙ append-nil assigned
 
 module _ (seat : List ℕ) (routes : List (List ℕ)) where
-  -- a vehicle gets this route, and these remain for the later vehicles
+  -- the vehicle gets the route `route`, and the routes `remaining` remain for the later vehicles
   abbrev pub Step : List ℕ → List (List ℕ) → Type 0
   Step route remaining = (assigned : List (List ℕ)) → fill_empty (seat ∷ assigned) routes ≡ route ∷ fill_empty assigned remaining
 

@@ -17,11 +17,11 @@ abbrev pub Gives : {X : Type 0} → Result X AssignmentFault → Result X Assign
 Gives (Ok x) wanted = wanted ≡ Ok x
 Gives (Err f) wanted = (f ≡ OutOfMemory) ⊎ (wanted ≡ Err f)
 
--- the text is that of this solution, which has this verdict in the problem
+-- the text spells the solution s, and s has the verdict v in the problem
 abbrev pub IsAudited : Instance → List ℕ → Solution → Verdict → Type 0
 IsAudited p text s v = Spells text s × IsVerdict p (printed s.routes s.cost) v
 
--- the text is that of a solution that passes, and this is the assignment of its routes
+-- the text spells a solution that passes, and `assigned` is the assignment of vehicles to its routes
 abbrev pub IsAssignedAs : Instance → List (List ℕ) → List ℕ → Result Plan AssignmentFault → Type 0
 IsAssignedAs p pins text assigned = (s : Solution) × (cost : Cost) × IsAudited p text s (verdict.Pass cost) × (assigned_plan p.fleet pins s.routes ≡ assigned)
 

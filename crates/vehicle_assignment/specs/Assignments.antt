@@ -19,7 +19,7 @@ pub record TakenRoute : Type 0 where
 abbrev pub take_at : List (List ℕ) → ℕ → TakenRoute
 take_at routes k = record { route = slice_index_or routes k []; remaining = slice_set routes k [] }
 
--- the first route that begins with the vehicle's pin, or nothing yet without a pin
+-- the first route that begins with the pin, or for now an empty route if the pin is empty
 abbrev pub take_route : List ℕ → List (List ℕ) → Option TakenRoute
 take_route pin routes = if length pin == 0 then Some (record { route = []; remaining = routes }) else option_map (take_at routes) (position (begins_with pin) routes)
 

@@ -19,11 +19,11 @@ AssignmentFunction = Instance → List (List ℕ) → List ℕ → Result Plan A
 abbrev pub IsAssignmentFunction : AssignmentFunction → Type 0
 IsAssignmentFunction seating = (p : Instance) (pins : List (List ℕ)) (text : List ℕ) → IsInstance p → IsFound p pins text (seating p pins text)
 
--- law: there is a function that returns this answer for each problem, pins and text
+-- law: there is a function that returns the answer of `IsFound` for each problem, pins and text
 abbrev pub AssignmentFunctionExists : Type 0
 AssignmentFunctionExists = (seating : AssignmentFunction) × IsAssignmentFunction seating
 
--- law: a problem, pins and a text have at most one answer
+-- law: for a problem, pins and a text, `IsFound` has at most one answer
 abbrev pub AssignmentIsUnique : Type 0
 AssignmentIsUnique = (p : Instance) (pins : List (List ℕ)) (text : List ℕ) (found other : Result Plan AssignmentFault) → IsFound p pins text found → IsFound p pins text other → found ≡ other
 
@@ -39,8 +39,8 @@ abbrev pub AssignmentKeepsRoutes : Type 0
 AssignmentKeepsRoutes = (fleet : ℕ) (pins routes : List (List ℕ)) (plan : Plan) → length pins ≤ fleet → used_count routes ≤ fleet → assigned_plan fleet pins routes ≡ Ok plan
     → IsAssignment fleet pins routes plan.routes
 
--- law: a solution that passes as printed passes as a plan with the pins, at the same cost, once vehicles are
--- assigned to its routes; the pins do not outnumber the vehicles
+-- law: if the pins do not outnumber the vehicles, a solution that passes as printed also passes as a plan with
+-- the pins, at the same cost, once vehicles are assigned to its routes
 abbrev pub AssignedPlansPass : Type 0
 AssignedPlansPass = (p : Instance) (pins routes : List (List ℕ)) (distance : ℕ) (cost : Cost) (plan : Plan) → length pins ≤ p.fleet → IsVerdict p (printed routes distance) (Pass cost)
     → assigned_plan p.fleet pins routes ≡ Ok plan → IsVerdict p (planned plan.routes pins) (Pass cost)

@@ -40,7 +40,7 @@ pub(crate) fn assign_by_pins(
     })
 }
 
-// Takes the first route that begins with this pin, or nothing yet if the pin is empty.
+// Takes the first route that begins with this pin, or for now an empty route if the pin is empty.
 fn take_route(alloc: Global, pin: &[u32], routes: &mut Routes) -> Option<Route>
     ensures { MatchOption result (take_route pin.now routes.old ≡ None)
         (λ route. take_route pin.now routes.old

@@ -1,4 +1,4 @@
--- The stops so far and those of the remaining requests are all stops.
+-- The count so far, plus the number of stops of the remaining requests, is the number of all stops.
 use Rattle.std.proofs.Common.{◌≡◌, ◌+◌, ◌*◌, ◌≤◌, length, drop}
 use Rattle.plan_types.specs.Instance.{numbers_among}
 use Rattle.annealing_schedule.proofs.mean_leg.stop_count.Given as goal

@@ -1,4 +1,4 @@
--- The number returned is that of the first rule that the route breaks as the only route.
+-- The result is the number of the first rule that the route breaks as the only route.
 use Rattle.plan_audit.proofs.alone.route_fault.Goals as goal
 
 pub returns-in-Some : goal.returns-in-Some

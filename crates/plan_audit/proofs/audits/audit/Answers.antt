@@ -1,5 +1,5 @@
--- The verdict on a plan is that on its stops, loads and times, then that on its number of routes, then that on
--- its pins. If all rules hold, it passes with its cost.
+-- The verdict on a plan depends first on its stops, loads and times, then on its number of routes, then on its
+-- pins. If all rules hold, the plan passes with its cost.
 use Rattle.std.proofs.Common.{◌≡◌, ℕ, List, Option, length, sym, ap, subst, ◌∙◌, refl, arith}
 use Rattle.plan_types.specs.Instance.{Instance}
 use Rattle.plan_audit.specs.FirstFault.{first_pin_mismatch}
@@ -27,11 +27,11 @@ returns-in-Err c =
     (subst (λ (q : Instance). IsBrokenWithin 1 8 q s c.in-Err.broken) c.in_ok-scan.ensures.made.0
     (c.in-Err.ensures.judged s (sym (c.in_ok-scan.ensures.made.1 ∙ c.as_slice-routes.ensures)) refl)))
 
--- the length of the plan is compared with the fleet of the given problem
+-- if the number of routes equals the fleet, so does the length of the given plan in the given problem
 same_length : (fleet : ℕ) (routes given : List (List ℕ)) (p : Instance) → fleet ≡ p.fleet → routes ≡ given → length routes ≡ fleet → length given ≡ p.fleet
 same_length fleet routes given p same is len = sym (ap length is) ∙ len ∙ same
 
--- the fault of the pins is that of the given plan and pins
+-- the pin mismatch that is found is the first one of the given plan and pins
 same_pins : (routes given pins named : List (List ℕ)) (o : Option Fault) → routes ≡ given → pins ≡ named → o ≡ first_pin_mismatch routes pins
     → first_pin_mismatch given named ≡ o
 same_pins routes given pins named o is are reported = ap (λ l. first_pin_mismatch l named) (sym is) ∙ ap (first_pin_mismatch routes) (sym are) ∙ sym reported

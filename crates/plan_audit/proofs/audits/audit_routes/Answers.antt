@@ -1,4 +1,4 @@
--- The verdict on routes is that on their stops, loads and times, then that on the number of vehicles. If these
+-- The verdict on routes depends first on their stops, loads and times, then on the number of vehicles. If these
 -- rules hold, the routes pass, whatever cost is printed.
 use Rattle.std.proofs.Common.{◌≡◌, ℕ, List, Option, sym, ap, subst, ◌∙◌, arith}
 use Rattle.plan_types.specs.Instance.{Instance}

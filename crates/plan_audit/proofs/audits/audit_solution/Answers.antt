@@ -9,7 +9,7 @@ use Rattle.plan_audit.proofs.StepLemmas.{cost_step, true_cost_step}
 use Rattle.plan_audit.proofs.audits.audit_solution.Goals as goal
 use Rattle.plan_audit.proofs.audits.audit_solution.Goals.{In_ok-broken, In-Pass}
 
--- the verdict on the routes is that on the given solution
+-- the verdict on the routes is the verdict on rules 1 to 10 for the given solution
 judged : (c : In_ok-broken) → IsVerdictWithin 1 10 c.args.problem.now (printed c.args.solution.now.routes c.args.solution.now.cost) c.in_ok-broken.broken
 judged c =
     subst (λ routes. IsVerdictWithin 1 10 c.args.problem.now (printed routes c.args.solution.now.cost) c.in_ok-broken.broken) c.as_slice.ensures

@@ -1,5 +1,5 @@
--- The first violation of rules 1 to 5 is the first of rules 1 to 8. If these five hold, the rules on loads and
--- times decide.
+-- A first violation of rules 1 to 5 is also the first violation of rules 1 to 8. If rules 1 to 5 hold, the rules
+-- on loads and times decide.
 use Rattle.std.proofs.Common.{arith}
 use Rattle.plan_audit.proofs.VerdictLemmas.{broken_wider, judged_after}
 use Rattle.plan_audit.proofs.audits.check_all_routes.Goals as goal

@@ -1,4 +1,4 @@
--- The first answer for the routes from this one on is the first answer of all.
+-- The first answer for the routes from this one on is the first answer for all routes.
 use Rattle.std.proofs.Common.{◌≡◌, ℕ, List, Option, drop, Contains, Bor}
 use Rattle.plan_audit.specs.FirstFault.{first_fault}
 use Rattle.plan_audit.specs.declared.faults.PlaceFault.{PlaceFault}

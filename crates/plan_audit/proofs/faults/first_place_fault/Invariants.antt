@@ -1,4 +1,4 @@
--- The first answer for the places from this one on is the first answer of all.
+-- The first answer for the places from this one on is the first answer for all places.
 use Rattle.std.proofs.Common.{◌≡◌, ℕ, Option, drop, Contains}
 use Rattle.plan_audit.specs.FirstFault.{first_place_fault}
 use Rattle.plan_audit.proofs.faults.first_place_fault.Given as goal

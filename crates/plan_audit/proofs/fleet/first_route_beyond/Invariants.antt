@@ -1,4 +1,5 @@
--- The first route from this one on that exceeds the vehicles left is the first of all that exceeds the fleet.
+-- The first of the remaining routes that gets none of the remaining vehicles is the first of all routes that
+-- gets none.
 use Rattle.std.proofs.Common.{◌≡◌, drop}
 use Rattle.plan_audit.specs.FirstFault.{first_route_beyond}
 use Rattle.plan_audit.proofs.fleet.first_route_beyond.Given as goal

@@ -1,5 +1,5 @@
--- Routes of a passing plan may be replaced by feasible ones that begin with their pins, if then no stop is in
--- two routes.
+-- Routes of a passing plan may be replaced by feasible routes that begin with the same pins, if no stop is in
+-- two routes afterwards.
 use Rattle.plan_audit.proofs.LocalLemmas.{routes_may_be_replaced}
 use Rattle.plan_audit.proofs.laws.routes_may_be_replaced.Goals as goal
 

@@ -1,5 +1,5 @@
--- The distance so far plus that of the remaining visits is the whole distance. If the remaining visits keep the
--- limits, the route does.
+-- The distance so far plus the distance of the remaining visits is the whole distance. If the remaining visits
+-- keep the limits, so does the route.
 use Rattle.std.proofs.Common.{◌≡◌, ◌+◌, false}
 use Rattle.std.specs.List.{AllByRecursion}
 use Rattle.route_sched.specs.Schedule.{route_length}

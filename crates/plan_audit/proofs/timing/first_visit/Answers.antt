@@ -1,4 +1,5 @@
--- The first visit from here on that fails the test is this one, or the first one after it if this one passes.
+-- If this visit fails the test, it is the first failing one from here on. Otherwise the first failing one comes
+-- after it.
 use Rattle.std.proofs.Common.{◌<◌, cond, Some, None, length, arith, sym, ap, ◌∙◌, get_or}
 use Rattle.plan_audit.specs.FirstFault.{visit_fault}
 use Rattle.plan_audit.proofs.VisitLemmas.{visit_is, visits_left, reported_here, reported_later, visit_fails}

@@ -1,5 +1,5 @@
--- The remaining visits are those from this place on, and the first of them that fails the test is the first of
--- all.
+-- The remaining visits are those from this place on. The first remaining visit that fails the test is the first
+-- of all visits that does.
 use Rattle.std.proofs.Common.{◌≡◌, Bool, drop}
 use Rattle.route_sched.specs.VisitList.{visits_from}
 use Rattle.route_sched.specs.declared.visits.Visit.{Visit}

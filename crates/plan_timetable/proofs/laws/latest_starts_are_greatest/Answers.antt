@@ -1,4 +1,5 @@
--- No start later than the latest one keeps the limits after it.
+-- From the latest start of a place nothing is late at this or a later place, and no later start has this
+-- property.
 use Rattle.plan_timetable.proofs.SlackLemmas as slack
 use Rattle.plan_timetable.proofs.laws.latest_starts_are_greatest.Goals as goal
 

@@ -1,4 +1,4 @@
--- The first stops of a route are known and distinct, like those of the whole route.
+-- The first stops of a route are known and distinct, like all stops of the route.
 use Rattle.route_sched.proofs.KnownStops.{front_once}
 use Rattle.plan_timetable.proofs.pin_ends.pin_may_end.Goals as goal
 

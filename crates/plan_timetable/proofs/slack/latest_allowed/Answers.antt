@@ -1,4 +1,5 @@
--- The latest start is the stop's own limit, or what the later places allow, whichever is less.
+-- The latest start is the latest time of the place itself, or the latest start that the later places allow,
+-- whichever is lower.
 use Rattle.std.proofs.Common.{◌∙◌, min, sym, ap, subst}
 use Rattle.slack_tables.specs.Latest.{IsLatestStartLimit}
 use Rattle.plan_timetable.proofs.SlackLemmas.{limited, unlimited}

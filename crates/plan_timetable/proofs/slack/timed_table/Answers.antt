@@ -1,4 +1,4 @@
--- A route that is feasible alone keeps the limits of a table.
+-- A used route that is feasible alone keeps the limits that `RouteTable::build` requires.
 use Rattle.std.proofs.lemmas.Result.{IfOk-weaker}
 use Rattle.plan_timetable.specs.Timed.{IsTimed}
 use Rattle.plan_timetable.proofs.RouteLemmas.{kept_limits}

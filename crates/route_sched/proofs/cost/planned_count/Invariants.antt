@@ -1,4 +1,4 @@
--- The requests so far are those counted at the stops of the routes so far.
+-- The count so far is the number of requests that are counted at the stops of the routes so far.
 use Rattle.std.proofs.Common.{◌≡◌, take}
 use Rattle.std.specs.List.{concat}
 use Rattle.route_sched.specs.RequestCount.{count_among}

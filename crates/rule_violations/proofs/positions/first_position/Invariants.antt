@@ -1,4 +1,4 @@
--- The first position from this route on is the first of all.
+-- The first position of the stop from this route on is its first position in all routes.
 use Rattle.std.proofs.Common.{◌≡◌, ◌+◌, drop}
 use Rattle.rule_violations.specs.Positions.{first_position, position_from}
 use Rattle.rule_violations.proofs.positions.first_position.Given as goal

@@ -1,4 +1,4 @@
--- The first place from here on is the first of all.
+-- The first place of the stop from here on is its first place in the route.
 use Rattle.std.proofs.Common.{◌≡◌, ◌+◌, drop}
 use Rattle.plan_audit.specs.FirstFault.{place_of}
 use Rattle.rule_violations.proofs.positions.place_in.Given as goal

@@ -1,4 +1,5 @@
--- The value is that of the digits so far, and fits a `u64`; after the last digit it is the value of all.
+-- The value so far is the value of the digits so far, and fits a `u64`. After the last digit it is the value of
+-- all digits.
 use Rattle.std.proofs.Common.{◌≡◌, ◌<◌, ◌^◌, take}
 use Rattle.std.specs.Str.Parse.{digits_value}
 use Rattle.text_lines.proofs.numeral.value_of.Given as goal

@@ -1,5 +1,5 @@
--- The routes so far, followed by those that the remaining pins take from the remaining routes, are the routes
--- of all vehicles with pins.
+-- The routes so far, followed by the routes that vehicles with the remaining pins take from the remaining
+-- routes, are the routes of all vehicles with pins.
 use Rattle.std.proofs.Common.{◌≡◌, ◌+◌, drop}
 use Rattle.vehicle_assignment.specs.Assignments.{assign_by_pins}
 use Rattle.vehicle_assignment.proofs.AssignLemmas.{with_seats}

@@ -1,5 +1,5 @@
--- Of the requests from here on, the first unplanned one is this one, or the first one after it if this one is
--- planned.
+-- If this request is unplanned, it is the first unplanned one from here on. Otherwise the first unplanned one
+-- comes after it.
 use Rattle.std.proofs.Common.{sym, ◌∙◌}
 use Rattle.plan_audit.proofs.PairLemmas.{unserved_here, unserved_later}
 use Rattle.plan_audit.proofs.scan.Scan.first_unserved.Goals as goal

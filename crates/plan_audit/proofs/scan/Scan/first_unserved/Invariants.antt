@@ -1,4 +1,4 @@
--- The first unplanned request from this one on is the first of all.
+-- The first unplanned request from this one on is the first of all unplanned requests.
 use Rattle.std.proofs.Common.{◌≡◌, drop}
 use Rattle.plan_audit.specs.FirstFault.{first_unserved}
 use Rattle.plan_audit.proofs.scan.Scan.first_unserved.Given as goal

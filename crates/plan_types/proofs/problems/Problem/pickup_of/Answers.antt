@@ -1,4 +1,5 @@
--- A stop whose request has another name is a delivery, and that name is the number of its pickup.
+-- If the name of a stop's request is not the number of the stop, the stop is a delivery, and the name is the
+-- number of its pickup.
 use Rattle.std.proofs.Common.{◌≡◌, sym, ap, ◌∙◌, cond, Some, None, eqb}
 use Rattle.std.proofs.lemmas.Bool.{ne_eqb, eq-eqb}
 use Rattle.std.specs.Option.{option_and_then, option_copied}
@@ -6,7 +7,7 @@ use Rattle.plan_types.specs.Instance.{pickup_at}
 use Rattle.plan_types.proofs.LookupLemmas.{pickup_from_located, pickup-below}
 use Rattle.plan_types.proofs.problems.Problem.pickup_of.Goals as goal
 
--- a stop whose request has another name is a delivery
+-- if the name of the stop's request is not the number of the stop, it is the number of its pickup
 found : (c : goal.Then-by_number-number) → pickup_at c.args.self.now c.args.number ≡ Some c.in-Some.by_number.now.name
 found c =
     pickup_from_located c.args.self.now c.args.number

@@ -1,4 +1,4 @@
--- Before the first place the vehicle is at the depot, at the depot's earliest time, with load 0.
+-- At place 0 the vehicle is at the depot, at the depot's earliest time, with load 0.
 use Rattle.std.proofs.Common.{◌∙◌, sym, ap, subst, arith}
 use Rattle.plan_types.specs.Limits.{IsVisit}
 use Rattle.plan_types.specs.Instance.{IsInstance}

@@ -1,5 +1,5 @@
--- A number at the beginning of the rest is that of the next word, and the words after it are those of the new
--- rest.
+-- A number at the beginning of the rest is the value of the next word, and the words after it are the words of
+-- the new rest.
 use Rattle.std.proofs.Common.{w32, drop, sym, ap, ◌∙◌, to_z-of_z}
 use Rattle.text_lines.specs.NumberPrefix.{BeginsWithNumber}
 use Rattle.text_lines.specs.Numbers.{first_number, within}
