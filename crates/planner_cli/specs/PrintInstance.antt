@@ -15,8 +15,11 @@ use Rattle.planner_cli.specs.Opening.{PrintsOpenFailure}
 use Rattle.sector_disk.specs.declared.sectors.Sectors as sectors
 
 -- The line on standard error that names the KIND of the text.
+unfoldable pub line_of_kind : List ℕ → List ℕ
+line_of_kind word = line (codes "planner: the instance is printed as " ++ word)
+
 abbrev pub kind_line : Format → List ℕ
-kind_line format = line (codes "planner: the instance is printed as " ++ format_word format)
+kind_line format = line_of_kind (format_word format)
 
 -- The text of the problem is written, and then its KIND on standard error; or memory ran out.
 abbrev pub WritesText : Instance → Option (List ℕ) → Option (List ℕ) → Option (List ℕ) → Option (List ℕ) → ℕ → Type 0

@@ -3,7 +3,7 @@
 ghost use Rattle.std.specs.Prelude.{◌≡◌, ◌≤◌, ◌∷◌, IfOk, OnOk};
 ghost use Rattle.std.specs.Io.KnownBytes.{Appends};
 ghost use Rattle.file_disk.specs.DeviceFiles.{IsOpenedReadOnlyAt};
-ghost use Rattle.planner_cli.specs.PrintInstance.{WritesInstance, WritesState, WritesStore, WritesText, kind_line};
+ghost use Rattle.planner_cli.specs.PrintInstance.{WritesInstance, WritesState, WritesStore, WritesText, kind_line, line_of_kind};
 
 use crate::read_only::{close_read_only, open_read_only, print_read_only_failure};
 use auditor_cli::status::{DONE, REFUSED};
@@ -111,6 +111,13 @@ fn print_kind<E: Write>(format: Format, errors: &mut E) -> io::Result<()>
     ensures { OnOk result (Appends (E.contents errors.old) (E.contents errors.new)
         (kind_line format)) }
 {
-    let kind = format.word();
-    writeln!(errors, "planner: the instance is printed as {kind}")
+    print_word(format.word(), errors)
+}
+
+#[tactic(auto, unfolding(crate::specs::PrintInstance::line_of_kind))]
+fn print_word<E: Write>(word: &str, errors: &mut E) -> io::Result<()>
+    ensures { OnOk result (Appends (E.contents errors.old) (E.contents errors.new)
+        (line_of_kind word.now)) }
+{
+    writeln!(errors, "planner: the instance is printed as {word}")
 }
