@@ -489,7 +489,7 @@ def check_manual():
     shown = list(dict.fromkeys(re.findall(r"^\.B planner (\w+)", synopsis, flags=re.MULTILINE)))
     if sorted(shown) != sorted(words):
         complain(path, 1, f"the synopsis has other words than help: {sorted(set(shown) ^ set(words))}")
-    first = "  load lilim|vrp "
+    first = "  load KIND "
     lines = first + printed.partition("\n" + first)[2].partition("\n\n")[0]
     commands_of_help = {name for line in lines.splitlines() for name in re.findall(r"(?:^  |, )([a-z]\w*)", line[:28])}
     if len(commands_of_help) < 20:

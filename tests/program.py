@@ -40,6 +40,10 @@ FAR_DELIVERY = ONE_PAIR.replace("0 50 2 0 2", "0 50 2 0 40001")
 DEPOT_ALONE = "2 10 1\n0 0 0 0 0 100 0 0 0\n"
 BOTH = "Route #1: 1 2\nCost 20\n"
 
+# Three customers in Solomon's format. A vehicle serves 1 at 5 and 2 at 12 and is back at 24; one that serves 3
+# waits there until 20, and is back at 35.
+SINGLES = "n\nVEHICLE\nNUMBER\n2 10\nCUSTOMER\nCUST\n0 0 0 0 0 100 0\n1 3 4 4 0 50 2\n2 6 8 4 0 60 2\n3 0 5 4 20 30 10\n"
+
 # For one vehicle and for two, with a pair farther away: the first stop of each pair is too late after
 # the other pair.
 LATE_PAIR = "1 10 1\n0 0 0 0 0 100 0 0 0\n1 3 4 4 0 6 2 0 2\n2 6 8 -4 0 60 2 1 0\n3 -6 8 4 0 10 2 0 4\n4 -9 12 -4 0 20 2 3 0\n"
@@ -122,6 +126,14 @@ SIX = vrp(4, [(0, 0), (3, 4), (6, 8), (-3, 4), (-6, 8), (0, 5), (9, 1)], [0, 2, 
 FOUR = vrp(1_000, [(0, 0), (0, 10), (6, 8), (6, 0), (3, 4)], [0, 1, 1, 1, 1])
 
 AUDITS = [
+    ("solomon", SINGLES, "Route #1: 1 2\nRoute #2: 3\nCost 30\n", "pass 0 2 30", 0),
+    ("solomon", SINGLES, "Route #1: 1 2\nCost 20\n", "broken 3 route 0 place 0 stop 3", 1),
+    ("solomon", SINGLES, "Route #1: 1 2 3\nCost 0\n", "broken 6 route 1 place 3 stop 3", 1),
+    ("solomon", SINGLES.replace("4 0 50", "4 0 4"), "Route #1: 1 2\nRoute #2: 3\nCost 30\n", "broken 7 route 1 place 1 stop 1", 1),
+    ("solomon", SINGLES.replace("2 10", "1 10", 1), "Route #1: 1 2\nRoute #2: 3\nCost 30\n", "broken 9 route 2 place 0 stop 0", 1),
+    ("solomon", ONE_PAIR, BOTH, "instance MissingKey 2", 2),
+    ("solomon", "n\n", BOTH, "instance Truncated 2", 2),
+    ("lilim", SINGLES, BOTH, "instance FieldCount 1", 2),
     ("lilim", ONE_PAIR, BOTH, "pass 0 1 20", 0),
     ("lilim", ONE_PAIR, "Route #1: 2 1\nCost 20\n", "broken 5 route 1 place 1 stop 2", 1),
     ("lilim", LATEST_11, BOTH, "broken 7 route 1 place 2 stop 2", 1),
@@ -200,10 +212,10 @@ NOT_GIVEN = "the following required arguments were not provided:"
 BAD_STEPS = "STEPS and DEVIATION are 0 to 1000000000 and SEED is 0 to 18446744073709551615, with digits only"
 BAD_SEED = "SEED is 0 to 18446744073709551615, with digits only"
 BAD_TASKS = "STEPS is 0 to 1000000000 and SEED is 0 to 18446744073709551615, with digits only"
-BAD_AUDIT = "the arguments are KIND INSTANCE SOLUTION [routes], and KIND is lilim or vrp"
-BAD_AUDITS = "the arguments are KIND LIST [routes], and KIND is lilim or vrp"
-BAD_DRAWING = "the arguments are STORE [ROUTE] or KIND INSTANCE SOLUTION [ROUTE], KIND is lilim or vrp, and ROUTE is a number with digits only"
-BAD_TIMETABLE = "the arguments are STORE [tabs] or KIND INSTANCE SOLUTION [tabs], and KIND is lilim or vrp"
+BAD_AUDIT = "the arguments are KIND INSTANCE SOLUTION [routes], and KIND is lilim, solomon or vrp"
+BAD_AUDITS = "the arguments are KIND LIST [routes], and KIND is lilim, solomon or vrp"
+BAD_DRAWING = "the arguments are STORE [ROUTE] or KIND INSTANCE SOLUTION [ROUTE], KIND is lilim, solomon or vrp, and ROUTE is a number with digits only"
+BAD_TIMETABLE = "the arguments are STORE [tabs] or KIND INSTANCE SOLUTION [tabs], and KIND is lilim, solomon or vrp"
 REFUSED = [
     (["audit", "lilim", "a"], NOT_GIVEN),
     (["audit", "lilim", "a", "b", "c"], BAD_AUDIT),
@@ -851,18 +863,20 @@ def check_instances(folder):
     for kind, instance, lines in [
         ("lilim", DAY, "add 1 5 5 0 900 5 6 6 0 900 5\nwithdraw 3\nbuild\n"),
         ("lilim", DEPOT_ALONE, ""),
+        ("solomon", SINGLES, "add1 1 5 5 0 900 5\nwithdraw 3\nbuild\n"),
         ("vrp", FOUR, "build\n"),
     ]:
+        printed = f"planner: the instance is printed as {kind}\n"
         folder.new_store()
         folder.run(load_line(kind, instance) + lines)
         status, text, errors = folder.planner("instance", "day.store")
-        expect(f"the instance after {lines!r}", (status, errors), (0, ""))
+        expect(f"the instance after {lines!r}", (status, errors), (0, printed))
         solution = folder.write("sol", folder.run("print\n").removesuffix("ok\n"))
         told = folder.planner("audit", kind, folder.write("held", text), solution)
         expect(f"the audit with it after {lines!r}", (told[0], told[1][:7], told[2]), (0, "pass 0 ", ""))
         os.path.exists(folder.file("again.store")) and os.remove(folder.file("again.store"))
         expect("the instance loaded again", folder.planner("load", "again.store", kind, "held")[:2], (0, "ok\n"))
-        expect("its instance", folder.planner("instance", "again.store"), (0, text, ""))
+        expect("its instance", folder.planner("instance", "again.store"), (0, text, printed))
     folder.new_store()
     folder.run(load_line("lilim", DAY) + "add1 1 5 5 0 900 5\n")
     expect("an instance with a single stop", folder.planner("instance", "day.store"), (2, "no NoFormat\n", ""))

@@ -379,7 +379,105 @@ EXPLAINED = [
 ]
 
 # The kind and the text of an instance that is refused, and the explanation.
+# The lines before the depot, in Solomon's format.
+HEADING = b"n\nVEHICLE\nNUMBER\n2 10\nCUSTOMER\nCUST\n"
+
 REFUSED_INSTANCES = [
+    # Solomon's format: the heading, then customers.
+    (
+        "solomon",
+        b"",
+        "line 1: the text ends early: the line with the name is missing\n",
+    ),
+    (
+        "solomon",
+        b"n\n",
+        "line 2: the text ends early: the line with VEHICLE is missing\n",
+    ),
+    (
+        "solomon",
+        b"n\nVEHICLES\n",
+        "line 2: the line begins with the wrong word: it is VEHICLES, the word must be VEHICLE\n"
+        "VEHICLES\n",
+    ),
+    (
+        "solomon",
+        b"n\nVEHICLE\nNUMBER\n",
+        "line 4: the text ends early: the line with fleet and capacity is missing\n",
+    ),
+    (
+        "solomon",
+        b"n\nVEHICLE\nNUMBER\n2\n",
+        "line 4: the number of words is wrong: 2 due, 1 found\n"
+        "2\n",
+    ),
+    (
+        "solomon",
+        b"n\nVEHICLE\nNUMBER\n0 10\n",
+        "line 4: a number is outside its limits: fleet is 0, its limits are 1..40000\n"
+        "0 10\n",
+    ),
+    (
+        "solomon",
+        HEADING,
+        "line 7: the text ends early: the line with customer 0, the depot, is missing\n",
+    ),
+    (
+        "solomon",
+        HEADING + b"0 1 1 0 0 9\n",
+        "line 7: the number of words is wrong: 7 due, 6 found\n"
+        "0 1 1 0 0 9\n",
+    ),
+    (
+        "solomon",
+        HEADING + b"0 1 1 0 0 9.5 0\n",
+        "line 7: a word is not a whole number: due is 9.5, which has a fraction\n"
+        "0 1 1 0 0 9.5 0\n",
+    ),
+    (
+        "solomon",
+        HEADING + b"0 1 1 0 -1 9 0\n",
+        "line 7: a number is outside its limits: ready is -1, its limits are 0..100000000\n"
+        "0 1 1 0 -1 9 0\n",
+    ),
+    (
+        "solomon",
+        HEADING + b"1 1 1 0 0 9 0\n",
+        "line 7: customer numbers do not rise from 0: the first is customer 1\n"
+        "1 1 1 0 0 9 0\n",
+    ),
+    (
+        "solomon",
+        HEADING + b"0 1 1 0 0 9 0\n40001 1 1 1 0 9 0\n",
+        "line 8: a customer has a number above 40000: customer 40001\n"
+        "40001 1 1 1 0 9 0\n",
+    ),
+    (
+        "solomon",
+        HEADING + b"0 1 1 0 0 9 0\n\n3 1 1 1 0 9 0\n2 1 1 1 0 9 0\n",
+        "line 10: customer numbers do not rise from 0: customer 2 follows customer 3\n"
+        "2 1 1 1 0 9 0\n",
+    ),
+    (
+        "solomon",
+        HEADING + b"0 1 1 0 0 9 0\n1 1 1 1 9 8 0\n",
+        "line 8: a window ends before it begins: it begins at 9 and ends at 8\n"
+        "1 1 1 1 9 8 0\n",
+    ),
+    (
+        "solomon",
+        ONE_PAIR,
+        "line 2: the line begins with the wrong word: it is 0, the word must be VEHICLE\n"
+        "0 0 0 0 0 100 0 0 0\n"
+        "the text looks like a Li-Lim instance, and is read as solomon\n",
+    ),
+    (
+        "solomon",
+        b"NAME : t\nDIMENSION : 2\n",
+        "line 2: the line begins with the wrong word: it is DIMENSION, the word must be VEHICLE\n"
+        "DIMENSION : 2\n"
+        "the text looks like a .vrp instance, and is read as solomon\n",
+    ),
     (
         "lilim",
         b"2 10\n",

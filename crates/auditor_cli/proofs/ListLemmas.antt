@@ -3,7 +3,7 @@ use Rattle.std.proofs.Common.{◌≡◌, ◌∙◌, inl, inr, ℕ, Bool, List, [
 use Rattle.std.specs.Prelude.{max}
 use Rattle.std.specs.Io.KnownBytes.{Appends, Keeps}
 use Rattle.std.proofs.KnownBytes.{Appends-nil, Appends-trans}
-use Rattle.plan_types.specs.declared.requests.Kind.{Kind}
+use Rattle.instance_read.specs.declared.formats.Format.{Format}
 use Rattle.auditor_cli.specs.BestKnown.{BestCost}
 use Rattle.auditor_cli.specs.IgnoredLines.{PrintsNoteOnSolution, listed_note}
 use Rattle.auditor_cli.specs.Compare.{IsListedAnswer}
@@ -40,7 +40,7 @@ read_in_turn instance solution was now (inr unread) = first_unread unread.2
     first_unread (inr two) = ((solution, Err unread.1) ∷ (instance, Ok two.1.0) ∷ [], two.1.1)
 
 -- If a line of the list names these files, their result is the result for the line.
-pub reported_of_listed : (routes_alone : Bool) (k other : Kind) → other ≡ k → (path l instance solution : List ℕ) (best : Option BestCost)
+pub reported_of_listed : (routes_alone : Bool) (k other : Format) → other ≡ k → (path l instance solution : List ℕ) (best : Option BestCost)
     → IsListedPair k l instance solution best → (was now : ListState) (answer : List ℕ) (status : ℕ)
     → now.lines ≡ next_number was.lines
     → IsPrintedForFilesBy (IsListedAnswer routes_alone other best) instance solution was.files now.files answer status

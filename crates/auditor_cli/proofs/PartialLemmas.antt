@@ -2,13 +2,13 @@
 use Rattle.std.proofs.Common.{◌≡◌, ℕ, ◌<◌, true, List, [], All, inl, inr, arith, subst, sym}
 use Rattle.std.proofs.lemmas.Bool.{ltb-true}
 use Rattle.plan_types.specs.Instance.{Instance}
-use Rattle.plan_types.specs.declared.requests.Kind.{Kind}
 use Rattle.route_sched.specs.Route.{AreDistinctStops, IsPlan}
 use Rattle.plan_audit.proofs.LocalLemmas.{plans_are_disjoint_routes}
 use Rattle.plan_audit.proofs.StepLemmas.{plan_from}
 use Rattle.plan_audit.specs.Verdict.{IsVerdict, KeepsRules, planned}
 use Rattle.plan_audit.specs.declared.rules.Verdict.{Verdict}
 use Rattle.plan_audit.specs.declared.rules.Verdict.TheVariants.{Broken, Pass}
+use Rattle.instance_read.specs.declared.formats.Format.{Format}
 use Rattle.auditor_cli.specs.Partial.{ArePartial, IsPartialOf, keeps_stops}
 use Rattle.auditor_cli.specs.declared.audit.Examination.{Examination}
 use Rattle.auditor_cli.specs.declared.audit.Examination.TheVariants.{BadInstance, BadSolution, Judged}
@@ -22,8 +22,8 @@ stops_kept p routes (Broken rule q j t) is kept m r i n from to b =
     elim (is.2.least m r i n from (omega (arith, to)) b) [ inl less ↦ omega (arith, number, above, to, less) | inr same ↦ (let e = same.0 in omega (arith, number, above, to, e)) ]
 
 -- The routes of a partial plan have current stops, each once.
-pub partial_live : (kind : Kind) (instance solution : List ℕ) (partial : PartialPlan) → ArePartial kind instance solution partial → All (AreDistinctStops partial.problem) partial.plan.routes
-partial_live kind instance solution partial are = by are.routes are.is_partial
+pub partial_live : (format : Format) (instance solution : List ℕ) (partial : PartialPlan) → ArePartial format instance solution partial → All (AreDistinctStops partial.problem) partial.plan.routes
+partial_live format instance solution partial are = by are.routes are.is_partial
   where
     by : (routes : Examination) → IsPartialOf routes partial → All (AreDistinctStops partial.problem) partial.plan.routes
     by (BadInstance fault) is = absurd is

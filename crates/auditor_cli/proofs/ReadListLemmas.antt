@@ -45,10 +45,10 @@ use Rattle.std.proofs.lemmas.Grind.{flat_map-append}
 use Rattle.std.proofs.lemmas.List.{drop_all, drop_more, get_or_default, take-append-drop}
 use Rattle.std.proofs.lemmas.List.Elements.{All-nil, All-head, All-push, All-tail}
 use Rattle.std.specs.declared.io.ErrorKind.{ErrorKind}
-use Rattle.plan_types.specs.declared.requests.Kind.{Kind}
 use Rattle.text_lines.specs.Lines.{HasNoLineFeed, lines_of}
 use Rattle.text_lines.proofs.LawProofs.{end_at_feeds}
 use Rattle.text_lines.proofs.PieceLemmas.{lines_nil}
+use Rattle.instance_read.specs.declared.formats.Format.{Format}
 use Rattle.auditor_cli.specs.Audits.{ArePrinted, IsAudited, IsEnded, IsReadLine, ListState, PrintsLines, PrintsListRead, ends_at_feed, read_more}
 use Rattle.auditor_cli.specs.Reads.{FileRead, IsGrown, IsReadFirst}
 use Rattle.auditor_cli.specs.Messages.{PrintsReadFailure, read_failure_line, read_failure_status}
@@ -144,14 +144,14 @@ module _ (path : List ℕ) (was : List FileRead) where
 -- ---- The list so far
 
 -- The result for the line that was passed on is the result for the line that was read.
-pub reported_of_line : (routes_alone : Bool) (k : Kind) (path : List ℕ) (next mid later : ListState) (now after : Option (List ℕ)) (line : List ℕ)
+pub reported_of_line : (routes_alone : Bool) (k : Format) (path : List ℕ) (next mid later : ListState) (now after : Option (List ℕ)) (line : List ℕ)
     (lines : List (List ℕ)) (s : ℕ) → mid ≡ read_more (path, Ok line) next → lines ≡ lines_of line
     → PrintsLines (IsAudited routes_alone k path) lines mid later now after s → PrintsLines (IsAudited routes_alone k path) (lines_of line) (read_more (path, Ok line) next) later now after s
 reported_of_line routes_alone k path next mid later now after line lines s noted are reported =
     read_as (IsAudited routes_alone k path) (lines_of line) mid (read_more (path, Ok line) next) later now after s noted
     (lines_as (IsAudited routes_alone k path) lines (lines_of line) mid later now after s are reported)
 
-module _ (routes_alone : Bool) (k : Kind) (path : List ℕ) (was : ListState) (before : Option (List ℕ)) where
+module _ (routes_alone : Bool) (k : Format) (path : List ℕ) (was : ListState) (before : Option (List ℕ)) where
   pub record IsSoFar (next : ListState) (now : Option (List ℕ)) (n : ℕ) : Type 0 where
     pub lines : List (List ℕ)
     pub ended_lines : All IsEnded lines
@@ -212,7 +212,7 @@ module _ (routes_alone : Bool) (k : Kind) (path : List ℕ) (was : ListState) (b
     )
 
 -- The case that the list can't be opened.
-pub unopened : (routes_alone : Bool) (k : Kind) (path : List ℕ) (was now : ListState) (before after : Option (List ℕ)) (error : ErrorKind) (status : ℕ)
+pub unopened : (routes_alone : Bool) (k : Format) (path : List ℕ) (was now : ListState) (before after : Option (List ℕ)) (error : ErrorKind) (status : ℕ)
     → now ≡ read_more (path, Err error) was → PrintsReadFailure path error before after status
     → PrintsListRead routes_alone k path was now before after status
 unopened routes_alone k path was now before after error status noted reported =

@@ -7,11 +7,11 @@ use Rattle.plan_audit.specs.declared.rules.Verdict.{Verdict}
 use Rattle.plan_audit.specs.declared.rules.Verdict.TheVariants.{Broken, Pass}
 use Rattle.route_sched.specs.Cost.{cost_of, total_length, used_count}
 use Rattle.plan_types.specs.Instance.{Instance, IsInstance}
-use Rattle.plan_types.specs.declared.requests.Kind.{Kind}
 use Rattle.sol_text.specs.Faults.{Spells}
 use Rattle.sol_text.specs.declared.read.Solution.{Solution}
 use Rattle.instance_read.specs.Readings.{SpellsInstance}
 use Rattle.instance_read.proofs.SpelledLemmas.{no_fault, problem_once}
+use Rattle.instance_read.specs.declared.formats.Format.{Format}
 use Rattle.auditor_cli.specs.Answer.{IsAnswer, IsRoutesAnswer, JudgesSpelled, SaysRoutesSound, SaysSound, AnswersVerdict, verdict_answer}
 use Rattle.auditor_cli.specs.RoutesAlone.{routes_text}
 use Rattle.auditor_cli.specs.declared.answer.AuditAnswer.{AuditAnswer}
@@ -19,11 +19,11 @@ use Rattle.auditor_cli.specs.declared.answer.AuditAnswer.{AuditAnswer}
 solution_once : (text : List ℕ) (s t : Solution) → Spells text s → Spells text t → s ≡ t
 solution_once text s t a b = a.1 ∙ sym b.1
 
-pub judges_spelled : (kind : Kind) (instance solution : List ℕ) (answer : AuditAnswer) → IsAnswer kind instance solution answer → JudgesSpelled kind instance solution answer
-judges_spelled kind instance solution answer (inl refuses) p s a b = absurd (no_fault kind instance p a refuses.first.0 refuses.fault.line refuses.fault.kind refuses.first.1)
-judges_spelled kind instance solution answer (inr (inl refuses)) p s a b = absurd (b.0 refuses.fault.line refuses.fault.kind refuses.first.0)
-judges_spelled kind instance solution answer (inr (inr judges)) p s a b =
-    subst (λ (q : Instance). AnswersVerdict q s answer) (problem_once kind instance judges.problem p judges.problem_spelled a)
+pub judges_spelled : (format : Format) (instance solution : List ℕ) (answer : AuditAnswer) → IsAnswer format instance solution answer → JudgesSpelled format instance solution answer
+judges_spelled format instance solution answer (inl refuses) p s a b = absurd (no_fault format instance p a refuses.first.0 refuses.fault.line refuses.fault.kind refuses.first.1)
+judges_spelled format instance solution answer (inr (inl refuses)) p s a b = absurd (b.0 refuses.fault.line refuses.fault.kind refuses.first.0)
+judges_spelled format instance solution answer (inr (inr judges)) p s a b =
+    subst (λ (q : Instance). AnswersVerdict q s answer) (problem_once format instance judges.problem p judges.problem_spelled a)
     (subst (λ (t : Solution). AnswersVerdict judges.problem t answer) (solution_once solution judges.plan s judges.plan_spelled b) judges.verdict)
 
 -- ---- Status 0
@@ -31,18 +31,18 @@ judges_spelled kind instance solution answer (inr (inr judges)) p s a b =
 abbrev IsVerdictOf : Instance → Solution → Verdict → Type 0
 IsVerdictOf p s v = IsVerdict p (printed s.routes s.cost) v
 
-says_by : (law : SolutionsPassIffSound) (kind : Kind) (instance solution : List ℕ) (answer : AuditAnswer) (p : Instance) (s : Solution) (v : Verdict)
-    → SpellsInstance kind instance p → Spells solution s → IsInstance p
-    → IsVerdictOf p s v → answer ≡ verdict_answer v → SaysSound kind instance solution answer
-says_by law kind instance solution answer p s (Pass cost) a b kept is reported =
+says_by : (law : SolutionsPassIffSound) (format : Format) (instance solution : List ℕ) (answer : AuditAnswer) (p : Instance) (s : Solution) (v : Verdict)
+    → SpellsInstance format instance p → Spells solution s → IsInstance p
+    → IsVerdictOf p s v → answer ≡ verdict_answer v → SaysSound format instance solution answer
+says_by law format instance solution answer p s (Pass cost) a b kept is reported =
     let sound = (law p s.routes s.cost (Pass cost) kept is).0 (ap (λ c. Pass c) is.1) in (
       λ _. record { problem = p; problem_spelled = a; plan = s; plan_spelled = b; sound = sound.0; complete = sound.1; fleet = sound.2; distance = sound.3 },
       λ _. ap (λ (x : AuditAnswer). x.status) reported,
     )
-says_by law kind instance solution answer p s (Broken rule route place stop) a b kept is reported = (
+says_by law format instance solution answer p s (Broken rule route place stop) a b kept is reported = (
   λ zero. let one : answer.status ≡ 1 = ap (λ (x : AuditAnswer). x.status) reported in absurd (omega (arith, zero, one)),
   λ sound.
-      let same_problem : sound.problem ≡ p = problem_once kind instance sound.problem p sound.problem_spelled a in
+      let same_problem : sound.problem ≡ p = problem_once format instance sound.problem p sound.problem_spelled a in
       let same_plan : sound.plan ≡ s = solution_once solution sound.plan s sound.plan_spelled b in
       let facts : IsSoundPlan p s.routes × AreAllPlanned p s.routes × (used_count s.routes ≤ p.fleet) × (s.cost ≡ total_length p s.routes) =
       rw (← same_problem, ← same_plan) (sound.sound, sound.complete, sound.fleet, sound.distance) in
@@ -50,33 +50,33 @@ says_by law kind instance solution answer p s (Broken rule route place stop) a b
       absurd cc,
 )
 
-pub says_sound : (law : SolutionsPassIffSound) (kind : Kind) (instance solution : List ℕ) (answer : AuditAnswer) → IsAnswer kind instance solution answer → SaysSound kind instance solution answer
-says_sound law kind instance solution answer (inl refuses) = (
+pub says_sound : (law : SolutionsPassIffSound) (format : Format) (instance solution : List ℕ) (answer : AuditAnswer) → IsAnswer format instance solution answer → SaysSound format instance solution answer
+says_sound law format instance solution answer (inl refuses) = (
   λ zero. let two : answer.status ≡ 2 = ap (λ (x : AuditAnswer). x.status) refuses.reported in absurd (omega (arith, zero, two)),
-  λ sound. absurd (no_fault kind instance sound.problem sound.problem_spelled refuses.first.0 refuses.fault.line refuses.fault.kind refuses.first.1),
+  λ sound. absurd (no_fault format instance sound.problem sound.problem_spelled refuses.first.0 refuses.fault.line refuses.fault.kind refuses.first.1),
 )
-says_sound law kind instance solution answer (inr (inl refuses)) = (
+says_sound law format instance solution answer (inr (inl refuses)) = (
   λ zero. let two : answer.status ≡ 2 = ap (λ (x : AuditAnswer). x.status) refuses.reported in absurd (omega (arith, zero, two)),
   λ sound. absurd (sound.plan_spelled.0 refuses.fault.line refuses.fault.kind refuses.first.0),
 )
-says_sound law kind instance solution answer (inr (inr judges)) =
-    says_by law kind instance solution answer judges.problem judges.plan judges.verdict.verdict judges.problem_spelled judges.plan_spelled judges.problem_kept
+says_sound law format instance solution answer (inr (inr judges)) =
+    says_by law format instance solution answer judges.problem judges.plan judges.verdict.verdict judges.problem_spelled judges.plan_spelled judges.problem_kept
     judges.verdict.is_verdict judges.verdict.reported
 
 -- ---- The routes only
 
-says_routes_by : (law : SolutionsPassIffSound) (true_cost : RoutesAreJudgedByTrueCost) (kind : Kind) (instance solution : List ℕ) (answer : AuditAnswer) (p : Instance) (s : Solution) (v : Verdict)
-    → SpellsInstance kind instance p → Spells (routes_text solution) s → IsInstance p → IsRoutesVerdict p s.routes v → answer ≡ verdict_answer v → SaysRoutesSound kind instance solution answer
-says_routes_by law true_cost kind instance solution answer p s (Pass cost) a b kept is reported =
+says_routes_by : (law : SolutionsPassIffSound) (true_cost : RoutesAreJudgedByTrueCost) (format : Format) (instance solution : List ℕ) (answer : AuditAnswer) (p : Instance) (s : Solution) (v : Verdict)
+    → SpellsInstance format instance p → Spells (routes_text solution) s → IsInstance p → IsRoutesVerdict p s.routes v → answer ≡ verdict_answer v → SaysRoutesSound format instance solution answer
+says_routes_by law true_cost format instance solution answer p s (Pass cost) a b kept is reported =
     let printed_is = (true_cost p s.routes (Pass cost)).0 is in
     let sound = (law p s.routes (total_length p s.routes) (Pass cost) kept printed_is).0 (ap (λ c. Pass c) printed_is.1) in (
       λ _. record { problem = p; problem_spelled = a; plan = s; plan_spelled = b; sound = sound.0; complete = sound.1; fleet = sound.2 },
       λ _. ap (λ (x : AuditAnswer). x.status) reported,
     )
-says_routes_by law true_cost kind instance solution answer p s (Broken rule route place stop) a b kept is reported = (
+says_routes_by law true_cost format instance solution answer p s (Broken rule route place stop) a b kept is reported = (
   λ zero. let one : answer.status ≡ 1 = ap (λ (x : AuditAnswer). x.status) reported in absurd (omega (arith, zero, one)),
   λ sound.
-      let same_problem : sound.problem ≡ p = problem_once kind instance sound.problem p sound.problem_spelled a in
+      let same_problem : sound.problem ≡ p = problem_once format instance sound.problem p sound.problem_spelled a in
       let same_plan : sound.plan ≡ s = solution_once (routes_text solution) sound.plan s sound.plan_spelled b in
       let facts : IsSoundPlan p s.routes × AreAllPlanned p s.routes × (used_count s.routes ≤ p.fleet) × (total_length p s.routes ≡ total_length p s.routes) =
       rw (← same_problem, ← same_plan) (sound.sound, sound.complete, sound.fleet, refl) in
@@ -85,15 +85,15 @@ says_routes_by law true_cost kind instance solution answer p s (Broken rule rout
       absurd cc,
 )
 
-pub says_routes_sound : (law : SolutionsPassIffSound) (true_cost : RoutesAreJudgedByTrueCost) (kind : Kind) (instance solution : List ℕ)
-    (answer : AuditAnswer) → IsRoutesAnswer kind instance solution answer → SaysRoutesSound kind instance solution answer
-says_routes_sound law true_cost kind instance solution answer (inl refuses) = (
+pub says_routes_sound : (law : SolutionsPassIffSound) (true_cost : RoutesAreJudgedByTrueCost) (format : Format) (instance solution : List ℕ)
+    (answer : AuditAnswer) → IsRoutesAnswer format instance solution answer → SaysRoutesSound format instance solution answer
+says_routes_sound law true_cost format instance solution answer (inl refuses) = (
   λ zero. let two : answer.status ≡ 2 = ap (λ (x : AuditAnswer). x.status) refuses.reported in absurd (omega (arith, zero, two)),
-  λ sound. absurd (no_fault kind instance sound.problem sound.problem_spelled refuses.first.0 refuses.fault.line refuses.fault.kind refuses.first.1),
+  λ sound. absurd (no_fault format instance sound.problem sound.problem_spelled refuses.first.0 refuses.fault.line refuses.fault.kind refuses.first.1),
 )
-says_routes_sound law true_cost kind instance solution answer (inr (inl refuses)) = (
+says_routes_sound law true_cost format instance solution answer (inr (inl refuses)) = (
   λ zero. let two : answer.status ≡ 2 = ap (λ (x : AuditAnswer). x.status) refuses.reported in absurd (omega (arith, zero, two)),
   λ sound. absurd (sound.plan_spelled.0 refuses.fault.line refuses.fault.kind refuses.first.0),
 )
-says_routes_sound law true_cost kind instance solution answer (inr (inr judges)) =
-    says_routes_by law true_cost kind instance solution answer judges.problem judges.plan judges.verdict judges.problem_spelled judges.plan_spelled judges.problem_kept judges.is_verdict judges.reported
+says_routes_sound law true_cost format instance solution answer (inr (inr judges)) =
+    says_routes_by law true_cost format instance solution answer judges.problem judges.plan judges.verdict judges.problem_spelled judges.plan_spelled judges.problem_kept judges.is_verdict judges.reported

@@ -3,7 +3,6 @@ use Rattle.std.specs.Prelude.{◌≡◌, ◌≤◌, ◌⊎◌, ◌↔◌, ℕ, B
 use Rattle.plan_audit.specs.Laws.{AreAllPlanned, IsSoundPlan}
 use Rattle.route_sched.specs.Cost.{total_length, used_count}
 use Rattle.plan_types.specs.Instance.{Instance, IsInstance}
-use Rattle.plan_types.specs.declared.requests.Kind.{Kind}
 use Rattle.instance_read.specs.Faults.{IsFirstFault}
 use Rattle.instance_read.specs.Names as instance_names
 use Rattle.instance_read.specs.declared.faults.ReadFault.{ReadFault}
@@ -15,6 +14,7 @@ use Rattle.plan_audit.specs.Verdict.{IsRoutesVerdict, IsVerdict, printed}
 use Rattle.plan_audit.specs.declared.rules.Verdict.{Verdict}
 use Rattle.plan_audit.specs.declared.rules.Verdict.TheVariants.{Broken, Pass}
 use Rattle.instance_read.specs.Readings.{InstanceFault, SpellsInstance}
+use Rattle.instance_read.specs.declared.formats.Format.{Format}
 use Rattle.auditor_cli.specs.AnswerText.{broken_text, fault_text, pass_text}
 use Rattle.auditor_cli.specs.RoutesAlone.{routes_text}
 use Rattle.auditor_cli.specs.declared.answer.AuditAnswer.{AuditAnswer}
@@ -29,15 +29,15 @@ verdict_answer (Pass cost) = record { line = pass_text cost; status = 0 }
 verdict_answer (Broken rule route place stop) = record { line = broken_text rule route place stop; status = 1 }
 
 -- The instance spells no problem, and the answer names its first fault.
-pub record RefusesInstance (kind : Kind) (instance : List ℕ) (answer : AuditAnswer) : Type 0 where
+pub record RefusesInstance (format : Format) (instance : List ℕ) (answer : AuditAnswer) : Type 0 where
   pub fault : ReadFault
-  pub first : IsFirstFault (InstanceFault kind instance) fault
+  pub first : IsFirstFault (InstanceFault format instance) fault
   pub reported : answer ≡ refused_answer (codes "instance") (instance_names.kind_name fault.kind) fault.line
 
 -- The instance spells a problem, and the solution is refused.
-pub record RefusesSolution (kind : Kind) (instance solution : List ℕ) (answer : AuditAnswer) : Type 0 where
+pub record RefusesSolution (format : Format) (instance solution : List ℕ) (answer : AuditAnswer) : Type 0 where
   pub problem : Instance
-  pub spelled : SpellsInstance kind instance problem
+  pub spelled : SpellsInstance format instance problem
   pub fault : SolFault
   pub first : sol_faults.IsFirstFault solution fault
   pub reported : answer ≡ refused_answer (codes "solution") (solution_names.kind_name fault.kind) fault.line
@@ -53,28 +53,28 @@ pub record AnswersVerdict (problem : Instance) (plan : Solution) (answer : Audit
   pub reported : answer ≡ verdict_answer verdict
 
 -- Both texts can be read, and the answer is that of the verdict on the problem and the solution.
-pub record Judges (kind : Kind) (instance solution : List ℕ) (answer : AuditAnswer) : Type 0 where
+pub record Judges (format : Format) (instance solution : List ℕ) (answer : AuditAnswer) : Type 0 where
   pub problem : Instance
-  pub problem_spelled : SpellsInstance kind instance problem
+  pub problem_spelled : SpellsInstance format instance problem
   pub problem_kept : IsInstance problem
   pub plan : Solution
   pub plan_spelled : sol_faults.Spells solution plan
   pub verdict : AnswersVerdict problem plan answer
 
 -- The answer to the audit of a solution against an instance of this kind.
-abbrev pub IsAnswer : Kind → List ℕ → List ℕ → AuditAnswer → Type 0
-IsAnswer kind instance solution answer = RefusesInstance kind instance answer ⊎ (RefusesSolution kind instance solution answer ⊎ Judges kind instance solution answer)
+abbrev pub IsAnswer : Format → List ℕ → List ℕ → AuditAnswer → Type 0
+IsAnswer format instance solution answer = RefusesInstance format instance answer ⊎ (RefusesSolution format instance solution answer ⊎ Judges format instance solution answer)
 
 -- If the texts spell a problem and a solution, the answer is that of a verdict on these two.
-abbrev pub JudgesSpelled : Kind → List ℕ → List ℕ → AuditAnswer → Type 0
-JudgesSpelled kind instance solution answer =
-    (problem : Instance) (plan : Solution) → SpellsInstance kind instance problem → sol_faults.Spells solution plan → AnswersVerdict problem plan answer
+abbrev pub JudgesSpelled : Format → List ℕ → List ℕ → AuditAnswer → Type 0
+JudgesSpelled format instance solution answer =
+    (problem : Instance) (plan : Solution) → SpellsInstance format instance problem → sol_faults.Spells solution plan → AnswersVerdict problem plan answer
 
 -- Both texts can be read, and the solution is sound, serves each request, uses no more vehicles than there are,
 -- and prints its true distance.
-pub record AreSound (kind : Kind) (instance solution : List ℕ) : Type 0 where
+pub record AreSound (format : Format) (instance solution : List ℕ) : Type 0 where
   pub problem : Instance
-  pub problem_spelled : SpellsInstance kind instance problem
+  pub problem_spelled : SpellsInstance format instance problem
   pub plan : Solution
   pub plan_spelled : sol_faults.Spells solution plan
   pub sound : IsSoundPlan problem plan.routes
@@ -83,15 +83,15 @@ pub record AreSound (kind : Kind) (instance solution : List ℕ) : Type 0 where
   pub distance : plan.cost ≡ total_length problem plan.routes
 
 -- The status is 0 exactly if the texts are sound in this sense.
-abbrev pub SaysSound : Kind → List ℕ → List ℕ → AuditAnswer → Type 0
-SaysSound kind instance solution answer = (answer.status ≡ 0) ↔ AreSound kind instance solution
+abbrev pub SaysSound : Format → List ℕ → List ℕ → AuditAnswer → Type 0
+SaysSound format instance solution answer = (answer.status ≡ 0) ↔ AreSound format instance solution
 
 -- ---- The routes only
 
 -- Both texts can be read, whatever cost is printed, and the answer is that of the verdict on the routes.
-pub record JudgesRoutes (kind : Kind) (instance solution : List ℕ) (answer : AuditAnswer) : Type 0 where
+pub record JudgesRoutes (format : Format) (instance solution : List ℕ) (answer : AuditAnswer) : Type 0 where
   pub problem : Instance
-  pub problem_spelled : SpellsInstance kind instance problem
+  pub problem_spelled : SpellsInstance format instance problem
   pub problem_kept : IsInstance problem
   pub plan : Solution
   pub plan_spelled : sol_faults.Spells (routes_text solution) plan
@@ -100,16 +100,16 @@ pub record JudgesRoutes (kind : Kind) (instance solution : List ℕ) (answer : A
   pub reported : answer ≡ verdict_answer verdict
 
 -- The answer to the audit of the routes of a solution, which needs no cost line.
-abbrev pub IsRoutesAnswer : Kind → List ℕ → List ℕ → AuditAnswer → Type 0
-IsRoutesAnswer kind instance solution answer =
-    RefusesInstance kind instance answer
-    ⊎ (RefusesSolution kind instance (routes_text solution) answer ⊎ JudgesRoutes kind instance solution answer)
+abbrev pub IsRoutesAnswer : Format → List ℕ → List ℕ → AuditAnswer → Type 0
+IsRoutesAnswer format instance solution answer =
+    RefusesInstance format instance answer
+    ⊎ (RefusesSolution format instance (routes_text solution) answer ⊎ JudgesRoutes format instance solution answer)
 
 -- Both texts can be read, and the routes are sound, serve each request, and use no more vehicles than there
 -- are.
-pub record HasSoundRoutes (kind : Kind) (instance solution : List ℕ) : Type 0 where
+pub record HasSoundRoutes (format : Format) (instance solution : List ℕ) : Type 0 where
   pub problem : Instance
-  pub problem_spelled : SpellsInstance kind instance problem
+  pub problem_spelled : SpellsInstance format instance problem
   pub plan : Solution
   pub plan_spelled : sol_faults.Spells (routes_text solution) plan
   pub sound : IsSoundPlan problem plan.routes
@@ -117,10 +117,10 @@ pub record HasSoundRoutes (kind : Kind) (instance solution : List ℕ) : Type 0 
   pub fleet : used_count plan.routes ≤ problem.fleet
 
 -- The status is 0 exactly if the routes are sound in this sense.
-abbrev pub SaysRoutesSound : Kind → List ℕ → List ℕ → AuditAnswer → Type 0
-SaysRoutesSound kind instance solution answer = (answer.status ≡ 0) ↔ HasSoundRoutes kind instance solution
+abbrev pub SaysRoutesSound : Format → List ℕ → List ℕ → AuditAnswer → Type 0
+SaysRoutesSound format instance solution answer = (answer.status ≡ 0) ↔ HasSoundRoutes format instance solution
 
 -- The answer to the audit of a solution, or only of its routes.
-abbrev pub IsAnswerBy : Bool → Kind → List ℕ → List ℕ → AuditAnswer → Type 0
-IsAnswerBy false kind instance solution answer = IsAnswer kind instance solution answer
-IsAnswerBy true kind instance solution answer = IsRoutesAnswer kind instance solution answer
+abbrev pub IsAnswerBy : Bool → Format → List ℕ → List ℕ → AuditAnswer → Type 0
+IsAnswerBy false format instance solution answer = IsAnswer format instance solution answer
+IsAnswerBy true format instance solution answer = IsRoutesAnswer format instance solution answer

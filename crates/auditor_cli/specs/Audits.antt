@@ -36,8 +36,8 @@ use Rattle.std.specs.Io.KnownBytes.{Appends}
 use Rattle.std.specs.List.{concat, flat_map, position_or_len}
 use Rattle.std.specs.Str.{IsUtf8}
 use Rattle.std.specs.declared.io.ErrorKind.{ErrorKind}
-use Rattle.plan_types.specs.declared.requests.Kind.{Kind}
 use Rattle.text_lines.specs.Lines.{HasNoLineFeed, with_line_feed, lines_of}
+use Rattle.instance_read.specs.declared.formats.Format.{Format}
 use Rattle.auditor_cli.specs.BestKnown.{BestCost, best_in}
 use Rattle.auditor_cli.specs.BadLines.{bad_note, bad_reason}
 use Rattle.auditor_cli.specs.IgnoredLines.{PrintsNoteOnSolution, listed_note}
@@ -123,7 +123,7 @@ abbrev pub next_number : ℕ → ℕ
 next_number n = if nat_lt n 18446744073709551615 then n + 1 else n
 
 -- The two paths of a line, and the line that `audit` prints for this pair, separated by tabs.
-pub record IsPairPrinted (routes_alone : Bool) (k : Kind) (path l : List ℕ) (was now : ListState) (text : List ℕ) (status : ℕ) : Type 0 where
+pub record IsPairPrinted (routes_alone : Bool) (k : Format) (path l : List ℕ) (was now : ListState) (text : List ℕ) (status : ℕ) : Type 0 where
   pub instance : List ℕ
   pub solution : List ℕ
   pub pair : IsPair l instance solution
@@ -134,28 +134,28 @@ pub record IsPairPrinted (routes_alone : Bool) (k : Kind) (path l : List ℕ) (w
   pub text_is : text ≡ pair_text instance solution answer
 
 -- Two paths, neither of them empty, and a best-known cost of an instance of this kind.
-abbrev pub compared : Kind → List ℕ → List ℕ → List ℕ → Option (List ℕ × List ℕ × BestCost)
+abbrev pub compared : Format → List ℕ → List ℕ → List ℕ → Option (List ℕ × List ℕ × BestCost)
 compared k instance solution column =
     if (length instance == 0) || (length solution == 0) then None else option_map (λ best. (instance, solution, best)) (best_in k column)
 
 -- The paths and the best-known cost of a line with two tabs.
-abbrev pub compared_parts : Kind → List ℕ → Option (List ℕ × List ℕ × BestCost)
+abbrev pub compared_parts : Format → List ℕ → Option (List ℕ × List ℕ × BestCost)
 compared_parts k text = option_and_then (λ p. option_and_then (λ q. compared k p.0 q.0 q.1) (cut p.1)) (cut text)
 
 -- The line names these two paths and this best-known cost.
-abbrev pub IsComparedPair : Kind → List ℕ → List ℕ → List ℕ → BestCost → Type 0
+abbrev pub IsComparedPair : Format → List ℕ → List ℕ → List ℕ → BestCost → Type 0
 IsComparedPair k text instance solution best = (compared_parts k text ≡ Some (instance, solution, best)) × IsUtf8 instance × IsUtf8 solution
 
-abbrev pub ComparesNone : Kind → List ℕ → Type 0
+abbrev pub ComparesNone : Format → List ℕ → Type 0
 ComparesNone k text = (instance solution : List ℕ) (best : BestCost) → IsComparedPair k text instance solution best → ⊥
 
 -- The line names these two paths, without or with a best-known cost.
-abbrev pub IsListedPair : Kind → List ℕ → List ℕ → List ℕ → Option BestCost → Type 0
+abbrev pub IsListedPair : Format → List ℕ → List ℕ → List ℕ → Option BestCost → Type 0
 IsListedPair k text instance solution None = IsPair text instance solution
 IsListedPair k text instance solution (Some best) = NamesNone text × IsComparedPair k text instance solution best
 
 -- The two paths of a line, and their audit compared with the best-known cost.
-pub record IsComparedPairPrinted (routes_alone : Bool) (k : Kind) (path l : List ℕ) (was now : ListState) (text : List ℕ) (status : ℕ) : Type 0 where
+pub record IsComparedPairPrinted (routes_alone : Bool) (k : Format) (path l : List ℕ) (was now : ListState) (text : List ℕ) (status : ℕ) : Type 0 where
   pub instance : List ℕ
   pub solution : List ℕ
   pub best : BestCost
@@ -167,7 +167,7 @@ pub record IsComparedPairPrinted (routes_alone : Bool) (k : Kind) (path l : List
   pub text_is : text ≡ pair_text instance solution answer
 
 -- Nothing is done for the line, and the reason is printed on standard error.
-pub record IsBadLinePrinted (k : Kind) (path l : List ℕ) (was now : ListState) (text : List ℕ) (status : ℕ) : Type 0 where
+pub record IsBadLinePrinted (k : Format) (path l : List ℕ) (was now : ListState) (text : List ℕ) (status : ℕ) : Type 0 where
   pub none : ComparesNone k l
   pub files : now.files ≡ was.files
   pub noted : Appends was.errors now.errors (bad_note path now.lines (bad_reason k l))
@@ -177,12 +177,12 @@ pub record IsBadLinePrinted (k : Kind) (path l : List ℕ) (was now : ListState)
 
 -- The answer to a line that does not consist of two paths. It either has a best-known cost after the paths, or
 -- is bad.
-abbrev pub IsComparedLine : Bool → Kind → List ℕ → List ℕ → ListState → ListState → List ℕ → ℕ → Type 0
+abbrev pub IsComparedLine : Bool → Format → List ℕ → List ℕ → ListState → ListState → List ℕ → ℕ → Type 0
 IsComparedLine routes_alone k path l was now text status =
     IsComparedPairPrinted routes_alone k path l was now text status ⊎ IsBadLinePrinted k path l was now text status
 
 -- The answer to a line of the list at this path.
-abbrev pub IsAudited : Bool → Kind → List ℕ → List ℕ → ListState → ListState → List ℕ → ℕ → Type 0
+abbrev pub IsAudited : Bool → Format → List ℕ → List ℕ → ListState → ListState → List ℕ → ℕ → Type 0
 IsAudited routes_alone k path l was now text status =
     IsPairPrinted routes_alone k path l was now text status ⊎ (NamesNone l × IsComparedLine routes_alone k path l was now text status)
 
@@ -197,12 +197,12 @@ ends_at_feed text = slice_index_or text (length text - 1) 0 == 10
 
 -- A line was read, with its line feed if it has one, and then the files that it names, before anything else of
 -- the list was read. This does not say when its answer was written. There may be no line.
-abbrev pub IsReadLine : Bool → Kind → List ℕ → List ℕ → ListState → ListState → List ℕ → ℕ → Type 0
+abbrev pub IsReadLine : Bool → Format → List ℕ → List ℕ → ListState → ListState → List ℕ → ℕ → Type 0
 IsReadLine routes_alone k path line was now text status = ArePrinted (IsAudited routes_alone k path) (lines_of line) (read_more (path, Ok line) was) now text status
 
 -- The list was read to its end: lines with their line feeds, and a last part without one, which may be empty.
 -- The printed lines are those for all bytes of the list.
-pub record IsReadWhole (routes_alone : Bool) (k : Kind) (path : List ℕ) (was now : ListState) (text : List ℕ) (status : ℕ) : Type 0 where
+pub record IsReadWhole (routes_alone : Bool) (k : Format) (path : List ℕ) (was now : ListState) (text : List ℕ) (status : ℕ) : Type 0 where
   pub lines : List (List ℕ)
   pub last : List ℕ
   pub ended_lines : All IsEnded lines
@@ -211,7 +211,7 @@ pub record IsReadWhole (routes_alone : Bool) (k : Kind) (path : List ℕ) (was n
   pub all_lines : flat_map lines_of (lines ++ last ∷ []) ≡ lines_of (concat lines ++ last)
 
 -- The list can't be read, or not to its end. This is printed after the answers for the lines before.
-pub record IsReadPartly (routes_alone : Bool) (k : Kind) (path : List ℕ) (was now : ListState) (text : List ℕ) (status : ℕ) : Type 0 where
+pub record IsReadPartly (routes_alone : Bool) (k : Format) (path : List ℕ) (was now : ListState) (text : List ℕ) (status : ℕ) : Type 0 where
   pub lines : List (List ℕ)
   pub ended_lines : All IsEnded lines
   pub between : ListState
@@ -224,13 +224,13 @@ pub record IsReadPartly (routes_alone : Bool) (k : Kind) (path : List ℕ) (was 
   pub text_is : text ≡ before ++ read_failure_line path error
   pub status_is : status ≡ max greatest (read_failure_status error)
 
-abbrev pub IsListRead : Bool → Kind → List ℕ → ListState → ListState → List ℕ → ℕ → Type 0
+abbrev pub IsListRead : Bool → Format → List ℕ → ListState → ListState → List ℕ → ℕ → Type 0
 IsListRead routes_alone k path was now text status = IsReadWhole routes_alone k path was now text status ⊎ IsReadPartly routes_alone k path was now text status
 
-abbrev pub PrintsListRead : Bool → Kind → List ℕ → ListState → ListState → Option (List ℕ) → Option (List ℕ) → ℕ → Type 0
+abbrev pub PrintsListRead : Bool → Format → List ℕ → ListState → ListState → Option (List ℕ) → Option (List ℕ) → ℕ → Type 0
 PrintsListRead routes_alone k path was now before after status = (text : List ℕ) × IsListRead routes_alone k path was now text status × Appends before after text
 
 -- The output and the lines on standard error for the whole list, from its first line on.
-abbrev pub PrintsList : Bool → Kind → List ℕ → List FileRead → List FileRead → Option (List ℕ) → Option (List ℕ) → Option (List ℕ) → Option (List ℕ) → ℕ → Type 0
+abbrev pub PrintsList : Bool → Format → List ℕ → List FileRead → List FileRead → Option (List ℕ) → Option (List ℕ) → Option (List ℕ) → Option (List ℕ) → ℕ → Type 0
 PrintsList routes_alone k path was now before after errors_before errors_after status =
     (lines : ℕ) × PrintsListRead routes_alone k path (list_state was errors_before 0) (list_state now errors_after lines) before after status

@@ -3,6 +3,8 @@ use Rattle.std.specs.Prelude.{ℕ, ◌==◌, ◌||◌, nat_lt, is_none, List, �
 use Rattle.std.specs.List.{position_or_len}
 use Rattle.plan_types.specs.declared.requests.Kind.{Kind}
 use Rattle.plan_types.specs.declared.requests.Kind.TheVariants.{LiLim, Vrp}
+use Rattle.instance_read.specs.Formats.{kind_of}
+use Rattle.instance_read.specs.declared.formats.Format.{Format}
 use Rattle.text_lines.specs.Lines.{with_line_feed}
 use Rattle.auditor_cli.specs.BestKnown.{best_in}
 use Rattle.auditor_cli.specs.Columns.{cut, is_tab}
@@ -16,23 +18,23 @@ cost_reason Vrp = codes "the third column is not a best-known cost such as 829"
 abbrev pub paths_reason : List ℕ → List ℕ → List ℕ
 paths_reason instance solution = if (length instance == 0) || (length solution == 0) then codes "a path is empty" else codes "a path is not UTF-8"
 
-abbrev pub columns_reason : Kind → List ℕ → List ℕ → List ℕ → List ℕ
-columns_reason k instance solution column =
+abbrev pub columns_reason : Format → List ℕ → List ℕ → List ℕ → List ℕ
+columns_reason format instance solution column =
     if nat_lt (position_or_len is_tab column) (length column) then codes "it has more than two tabs"
-    else if is_none (best_in k column) then cost_reason k
+    else if is_none (best_in format column) then cost_reason (kind_of format)
     else paths_reason instance solution
 
 -- The reason for a bad line, by its first column and by what follows its first tab.
-abbrev pub rest_reason : Kind → List ℕ → List ℕ → Option (List ℕ × List ℕ) → List ℕ
-rest_reason k instance rest None = paths_reason instance rest
-rest_reason k instance rest (Some p) = columns_reason k instance p.0 p.1
+abbrev pub rest_reason : Format → List ℕ → List ℕ → Option (List ℕ × List ℕ) → List ℕ
+rest_reason format instance rest None = paths_reason instance rest
+rest_reason format instance rest (Some p) = columns_reason format instance p.0 p.1
 
-abbrev pub reason_by : Kind → List ℕ → Option (List ℕ × List ℕ) → List ℕ
-reason_by k line None = if length line == 0 then codes "it is empty" else codes "it has no tab"
-reason_by k line (Some p) = rest_reason k p.0 p.1 (cut p.1)
+abbrev pub reason_by : Format → List ℕ → Option (List ℕ × List ℕ) → List ℕ
+reason_by format line None = if length line == 0 then codes "it is empty" else codes "it has no tab"
+reason_by format line (Some p) = rest_reason format p.0 p.1 (cut p.1)
 
-abbrev pub bad_reason : Kind → List ℕ → List ℕ
-bad_reason k line = reason_by k line (cut line)
+abbrev pub bad_reason : Format → List ℕ → List ℕ
+bad_reason format line = reason_by format line (cut line)
 
 -- The note on line n of a list.
 abbrev pub bad_note : List ℕ → ℕ → List ℕ → List ℕ

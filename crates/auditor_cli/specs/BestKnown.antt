@@ -4,6 +4,8 @@ use Rattle.std.specs.List.{list_any}
 use Rattle.plan_types.specs.declared.plans.Cost.{Cost}
 use Rattle.plan_types.specs.declared.requests.Kind.{Kind}
 use Rattle.plan_types.specs.declared.requests.Kind.TheVariants.{LiLim, Vrp}
+use Rattle.instance_read.specs.Formats.{kind_of}
+use Rattle.instance_read.specs.declared.formats.Format.{Format}
 use Rattle.text_lines.specs.Numbers.{below, digits_of, magnitude, number_of}
 use Rattle.text_lines.specs.Words.{words_of}
 use Rattle.auditor_cli.specs.Gaps.{gap_text, vehicles_text}
@@ -47,8 +49,8 @@ has_tab text = list_any (λ b. b == 9) text
 
 -- the best-known cost in a column, with blanks between its words and around them; vehicles count only in a
 -- problem of kind `LiLim`
-abbrev pub best_in : Kind → List ℕ → Option BestCost
-best_in kind text = if has_tab text then None else best_in_words kind (words_of text)
+abbrev pub best_in : Format → List ℕ → Option BestCost
+best_in format text = if has_tab text then None else best_in_words (kind_of format) (words_of text)
 
 -- distances are compared if the vehicles are equal or not given
 abbrev pub comparison_with : Option ℕ → ℕ → Cost → List ℕ

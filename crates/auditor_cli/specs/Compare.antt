@@ -1,7 +1,7 @@
 -- The audit of a solution compared with a best-known cost of its instance.
 use Rattle.std.specs.Prelude.{◌≡◌, ℕ, Bool, List, ◌++◌, Option, Some, None}
+use Rattle.instance_read.specs.declared.formats.Format.{Format}
 use Rattle.auditor_cli.specs.BestKnown.{BestCost, comparison_text}
-use Rattle.plan_types.specs.declared.requests.Kind.{Kind}
 use Rattle.plan_audit.specs.declared.rules.Verdict.{Verdict}
 use Rattle.plan_audit.specs.declared.rules.Verdict.TheVariants.{Broken, Pass}
 use Rattle.auditor_cli.specs.Answer.{IsAnswerBy, verdict_answer}
@@ -22,13 +22,13 @@ compared_answer best (BadInstance fault) = answer_of (BadInstance fault)
 compared_answer best (BadSolution fault) = answer_of (BadSolution fault)
 compared_answer best (Judged problem plan verdict) = compared_verdict best verdict
 
--- The answer for an instance of this kind and a solution, or only its routes.
-pub record IsComparedAnswer (routes_alone : Bool) (kind : Kind) (best : BestCost) (instance solution : List ℕ) (answer : AuditAnswer) : Type 0 where
+-- The answer for an instance of this format and a solution, or only its routes.
+pub record IsComparedAnswer (routes_alone : Bool) (format : Format) (best : BestCost) (instance solution : List ℕ) (answer : AuditAnswer) : Type 0 where
   pub examined : Examination
-  pub is_examined : IsExaminedBy routes_alone kind instance solution examined
+  pub is_examined : IsExaminedBy routes_alone format instance solution examined
   pub answers : answer ≡ compared_answer best examined
 
 -- The answer for the two texts that a line of a list names. The line may have a best-known cost after them.
-abbrev pub IsListedAnswer : Bool → Kind → Option BestCost → List ℕ → List ℕ → AuditAnswer → Type 0
-IsListedAnswer routes_alone kind None instance solution answer = IsAnswerBy routes_alone kind instance solution answer
-IsListedAnswer routes_alone kind (Some best) instance solution answer = IsComparedAnswer routes_alone kind best instance solution answer
+abbrev pub IsListedAnswer : Bool → Format → Option BestCost → List ℕ → List ℕ → AuditAnswer → Type 0
+IsListedAnswer routes_alone format None instance solution answer = IsAnswerBy routes_alone format instance solution answer
+IsListedAnswer routes_alone format (Some best) instance solution answer = IsComparedAnswer routes_alone format best instance solution answer

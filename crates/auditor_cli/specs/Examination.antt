@@ -1,7 +1,6 @@
 -- The result of examining an instance and a solution, and the answer for it.
 use Rattle.std.specs.Prelude.{ℕ, Bool, true, false, List, codes}
 use Rattle.plan_types.specs.Instance.{Instance, IsInstance}
-use Rattle.plan_types.specs.declared.requests.Kind.{Kind}
 use Rattle.plan_audit.specs.Verdict.{IsRoutesVerdict, IsVerdict, printed}
 use Rattle.plan_audit.specs.declared.rules.Verdict.{Verdict}
 use Rattle.instance_read.specs.Faults.{IsFirstFault}
@@ -11,6 +10,7 @@ use Rattle.sol_text.specs.Names as solution_names
 use Rattle.sol_text.specs.declared.faults.SolFault.{SolFault}
 use Rattle.sol_text.specs.declared.read.Solution.{Solution}
 use Rattle.instance_read.specs.Readings.{InstanceFault, SpellsInstance}
+use Rattle.instance_read.specs.declared.formats.Format.{Format}
 use Rattle.auditor_cli.specs.Answer.{IsSolutionVerdict, refused_answer, verdict_answer}
 use Rattle.auditor_cli.specs.RoutesAlone.{routes_text}
 use Rattle.auditor_cli.specs.declared.answer.AuditAnswer.{AuditAnswer}
@@ -18,23 +18,23 @@ use Rattle.auditor_cli.specs.declared.audit.Examination.{Examination}
 use Rattle.auditor_cli.specs.declared.audit.Examination.TheVariants.{BadInstance, BadSolution, Judged}
 
 -- The instance spells a problem, and this is the first fault of the solution.
-pub record IsBadSolution (kind : Kind) (instance solution : List ℕ) (fault : SolFault) : Type 0 where
+pub record IsBadSolution (format : Format) (instance solution : List ℕ) (fault : SolFault) : Type 0 where
   pub problem : Instance
-  pub spelled : SpellsInstance kind instance problem
+  pub spelled : SpellsInstance format instance problem
   pub first : sol_faults.IsFirstFault solution fault
 
 -- Both texts can be read, and this is the verdict on the problem and the solution.
-pub record IsJudged (kind : Kind) (instance solution : List ℕ) (problem : Instance) (plan : Solution) (verdict : Verdict) : Type 0 where
-  pub problem_spelled : SpellsInstance kind instance problem
+pub record IsJudged (format : Format) (instance solution : List ℕ) (problem : Instance) (plan : Solution) (verdict : Verdict) : Type 0 where
+  pub problem_spelled : SpellsInstance format instance problem
   pub problem_kept : IsInstance problem
   pub plan_spelled : sol_faults.Spells solution plan
   pub is_verdict : IsSolutionVerdict problem plan verdict
 
 -- The result of examining two texts.
-abbrev pub IsExamined : Kind → List ℕ → List ℕ → Examination → Type 0
-IsExamined kind instance solution (BadInstance fault) = IsFirstFault (InstanceFault kind instance) fault
-IsExamined kind instance solution (BadSolution fault) = IsBadSolution kind instance solution fault
-IsExamined kind instance solution (Judged problem plan verdict) = IsJudged kind instance solution problem plan verdict
+abbrev pub IsExamined : Format → List ℕ → List ℕ → Examination → Type 0
+IsExamined format instance solution (BadInstance fault) = IsFirstFault (InstanceFault format instance) fault
+IsExamined format instance solution (BadSolution fault) = IsBadSolution format instance solution fault
+IsExamined format instance solution (Judged problem plan verdict) = IsJudged format instance solution problem plan verdict
 
 -- The answer for the result of an examination.
 abbrev pub answer_of : Examination → AuditAnswer
@@ -51,25 +51,25 @@ HasVerdict (Judged problem plan verdict) = IsSolutionVerdict problem plan verdic
 -- ---- The routes only
 
 -- Both texts can be read, and this is the verdict on the routes.
-pub record AreRoutesJudged (kind : Kind) (instance text : List ℕ) (problem : Instance) (plan : Solution) (verdict : Verdict) : Type 0 where
-  pub problem_spelled : SpellsInstance kind instance problem
+pub record AreRoutesJudged (format : Format) (instance text : List ℕ) (problem : Instance) (plan : Solution) (verdict : Verdict) : Type 0 where
+  pub problem_spelled : SpellsInstance format instance problem
   pub problem_kept : IsInstance problem
   pub plan_spelled : sol_faults.Spells text plan
   pub is_verdict : IsRoutesVerdict problem plan.routes verdict
 
 -- The result of examining two texts without regard to the cost.
-abbrev pub AreExaminedForRoutes : Kind → List ℕ → List ℕ → Examination → Type 0
-AreExaminedForRoutes kind instance text (BadInstance fault) = IsFirstFault (InstanceFault kind instance) fault
-AreExaminedForRoutes kind instance text (BadSolution fault) = IsBadSolution kind instance text fault
-AreExaminedForRoutes kind instance text (Judged problem plan verdict) = AreRoutesJudged kind instance text problem plan verdict
+abbrev pub AreExaminedForRoutes : Format → List ℕ → List ℕ → Examination → Type 0
+AreExaminedForRoutes format instance text (BadInstance fault) = IsFirstFault (InstanceFault format instance) fault
+AreExaminedForRoutes format instance text (BadSolution fault) = IsBadSolution format instance text fault
+AreExaminedForRoutes format instance text (Judged problem plan verdict) = AreRoutesJudged format instance text problem plan verdict
 
 -- The result of examining an instance and the routes of a solution, whose cost line may be missing.
-abbrev pub AreRoutesExamined : Kind → List ℕ → List ℕ → Examination → Type 0
-AreRoutesExamined kind instance solution examined = AreExaminedForRoutes kind instance (routes_text solution) examined
+abbrev pub AreRoutesExamined : Format → List ℕ → List ℕ → Examination → Type 0
+AreRoutesExamined format instance solution examined = AreExaminedForRoutes format instance (routes_text solution) examined
 
-abbrev pub IsExaminedBy : Bool → Kind → List ℕ → List ℕ → Examination → Type 0
-IsExaminedBy false kind instance solution examined = IsExamined kind instance solution examined
-IsExaminedBy true kind instance solution examined = AreRoutesExamined kind instance solution examined
+abbrev pub IsExaminedBy : Bool → Format → List ℕ → List ℕ → Examination → Type 0
+IsExaminedBy false format instance solution examined = IsExamined format instance solution examined
+IsExaminedBy true format instance solution examined = AreRoutesExamined format instance solution examined
 
 -- If both texts can be read, the verdict is that on the problem and on these routes with some printed cost.
 abbrev pub HasVerdictForSomeCost : Examination → Type 0

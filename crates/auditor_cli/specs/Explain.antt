@@ -3,9 +3,9 @@ use Rattle.std.specs.Prelude.{◌≡◌, ◌⊎◌, ℕ, Bool, true, List, [], �
 use Rattle.std.specs.Io.KnownBytes.{Appends}
 use Rattle.std.specs.declared.alloc.AllocError.{AllocError}
 use Rattle.std.specs.declared.io.ErrorKind.{ErrorKind}
-use Rattle.plan_types.specs.declared.requests.Kind.{Kind}
 use Rattle.plan_explain.specs.VerdictTexts.{distance_text, verdict_text}
 use Rattle.plan_explain.specs.Refusals.{instance_fault_text, solution_fault_text}
+use Rattle.instance_read.specs.declared.formats.Format.{Format}
 use Rattle.auditor_cli.specs.Answer.{IsAnswerBy}
 use Rattle.auditor_cli.specs.Examination.{IsExaminedBy, answer_of}
 use Rattle.auditor_cli.specs.Files.{AreBothRead, IsUnread}
@@ -24,30 +24,30 @@ distance_of_routes (BadSolution fault) = []
 distance_of_routes (BadInstance fault) = []
 
 -- This text has the distance of a solution's routes, whatever cost the solution prints.
-pub record GivesRoutesDistance (kind : Kind) (instance solution text : List ℕ) : Type 0 where
+pub record GivesRoutesDistance (format : Format) (instance solution text : List ℕ) : Type 0 where
   pub routes : Examination
-  pub are_routes : IsExaminedBy true kind instance solution routes
+  pub are_routes : IsExaminedBy true format instance solution routes
   pub driven : text ≡ distance_of_routes routes
 
 -- The explanation of a solution that has this fault, and the distance of its routes.
-pub record RestsOnFault (kind : Kind) (instance solution : List ℕ) (fault : SolFault) (text : List ℕ) : Type 0 where
+pub record RestsOnFault (format : Format) (instance solution : List ℕ) (fault : SolFault) (text : List ℕ) : Type 0 where
   pub routes : Examination
-  pub are_routes : IsExaminedBy true kind instance solution routes
+  pub are_routes : IsExaminedBy true format instance solution routes
   pub reported : text ≡ solution_fault_text solution fault ++ distance_of_routes routes
 
--- The explanation of the answer for two texts, of which the instance was read as this kind: a fault and its
+-- The explanation of the answer for two texts, of which the instance was read as this format: a fault and its
 -- line, or the values that the verdict is based on.
-abbrev pub RestsOn : Kind → List ℕ → List ℕ → Examination → List ℕ → Type 0
-RestsOn kind instance solution (BadInstance fault) text = text ≡ instance_fault_text kind instance fault
-RestsOn kind instance solution (BadSolution fault) text = RestsOnFault kind instance solution fault text
-RestsOn kind instance solution (Judged problem plan verdict) text = text ≡ verdict_text problem plan verdict
+abbrev pub RestsOn : Format → List ℕ → List ℕ → Examination → List ℕ → Type 0
+RestsOn format instance solution (BadInstance fault) text = text ≡ instance_fault_text format instance fault
+RestsOn format instance solution (BadSolution fault) text = RestsOnFault format instance solution fault text
+RestsOn format instance solution (Judged problem plan verdict) text = text ≡ verdict_text problem plan verdict
 
 -- The answer to the audit of a solution, or only of its routes, with its explanation.
-pub record IsExplanation (routes_alone : Bool) (kind : Kind) (instance solution : List ℕ) (explanation : Explanation) : Type 0 where
+pub record IsExplanation (routes_alone : Bool) (format : Format) (instance solution : List ℕ) (explanation : Explanation) : Type 0 where
   pub examined : Examination
-  pub is_examined : IsExaminedBy routes_alone kind instance solution examined
+  pub is_examined : IsExaminedBy routes_alone format instance solution examined
   pub answers : explanation.answer ≡ answer_of examined
-  pub rests : RestsOn kind instance solution examined (string_bytes explanation.text)
+  pub rests : RestsOn format instance solution examined (string_bytes explanation.text)
 
 -- The line of the answer, and then its explanation.
 abbrev pub answer_and_text : Explanation → List ℕ
@@ -65,14 +65,14 @@ abbrev pub PrintsExplanationResult : {E : Type 0} → Result Explanation E → O
 PrintsExplanationResult explained before after status = (status ≡ explanation_status explained) × Appends before after (explanation_text explained)
 
 -- Two texts are explained. The answer is that of their audit.
-pub record ExplainsTexts (routes_alone : Bool) (k : Kind) (x y : List ℕ) (before after : Option (List ℕ)) (status : ℕ) : Type 0 where
+pub record ExplainsTexts (routes_alone : Bool) (k : Format) (x y : List ℕ) (before after : Option (List ℕ)) (status : ℕ) : Type 0 where
   pub explained : Result Explanation AllocError
   pub answers : IfOk explained (λ explanation. IsAnswerBy routes_alone k x y explanation.answer)
   pub explains : IfOk explained (IsExplanation routes_alone k x y)
   pub reported : PrintsExplanationResult explained before after status
 
 -- Both files were read, and their texts were explained.
-pub record ExplainsBothRead (routes_alone : Bool) (k : Kind) (instance solution : List ℕ) (was now : List FileRead) (before after : Option (List ℕ)) (status : ℕ) : Type 0 where
+pub record ExplainsBothRead (routes_alone : Bool) (k : Format) (instance solution : List ℕ) (was now : List FileRead) (before after : Option (List ℕ)) (status : ℕ) : Type 0 where
   pub x : List ℕ
   pub y : List ℕ
   pub read : AreBothRead instance solution x y was now
@@ -85,6 +85,6 @@ pub record PrintsUnreadFile (instance solution : List ℕ) (was now : List FileR
   pub unread : IsUnread instance solution path error was now
   pub reported : PrintsReadFailure path error before after status
 
-abbrev pub ExplainsFiles : Bool → Kind → List ℕ → List ℕ → List FileRead → List FileRead → Option (List ℕ) → Option (List ℕ) → ℕ → Type 0
+abbrev pub ExplainsFiles : Bool → Format → List ℕ → List ℕ → List FileRead → List FileRead → Option (List ℕ) → Option (List ℕ) → ℕ → Type 0
 ExplainsFiles routes_alone k instance solution was now before after status =
     ExplainsBothRead routes_alone k instance solution was now before after status ⊎ PrintsUnreadFile instance solution was now before after status

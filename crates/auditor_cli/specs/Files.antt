@@ -4,7 +4,7 @@ use Rattle.std.specs.Prelude.{◌≡◌, ◌⊎◌, ℕ, Bool, List, ◌∷◌, 
 use Rattle.std.specs.Io.KnownBytes.{Appends}
 use Rattle.std.specs.declared.alloc.AllocError.{AllocError}
 use Rattle.std.specs.declared.io.ErrorKind.{ErrorKind}
-use Rattle.plan_types.specs.declared.requests.Kind.{Kind}
+use Rattle.instance_read.specs.declared.formats.Format.{Format}
 use Rattle.auditor_cli.specs.Answer.{IsAnswerBy}
 use Rattle.auditor_cli.specs.Reads.{FileRead}
 use Rattle.auditor_cli.specs.Messages.{answer_line, answer_status, read_failure_line, read_failure_status}
@@ -46,10 +46,10 @@ PrintsFilesBy IsAnswered instance solution was now before after status =
     (text : List ℕ) × IsPrintedForFilesBy IsAnswered instance solution was now text status × Appends before after text
 
 -- The line that `audit` prints for two files, for the solution or only for its routes.
-abbrev pub IsPrintedForFiles : Bool → Kind → List ℕ → List ℕ → List FileRead → List FileRead → List ℕ → ℕ → Type 0
+abbrev pub IsPrintedForFiles : Bool → Format → List ℕ → List ℕ → List FileRead → List FileRead → List ℕ → ℕ → Type 0
 IsPrintedForFiles routes_alone k instance solution was now text status =
     IsPrintedForFilesBy (IsAnswerBy routes_alone k) instance solution was now text status
 
-abbrev pub PrintsFiles : Bool → Kind → List ℕ → List ℕ → List FileRead → List FileRead → Option (List ℕ) → Option (List ℕ) → ℕ → Type 0
+abbrev pub PrintsFiles : Bool → Format → List ℕ → List ℕ → List FileRead → List FileRead → Option (List ℕ) → Option (List ℕ) → ℕ → Type 0
 PrintsFiles routes_alone k instance solution was now before after status =
     PrintsFilesBy (IsAnswerBy routes_alone k) instance solution was now before after status

@@ -3,10 +3,10 @@
 use Rattle.std.specs.Prelude.{◌⊎◌, ℕ, List, [], ◌++◌, codes, decimal, Option, Some, None}
 use Rattle.std.specs.Io.KnownBytes.{Appends}
 use Rattle.std.specs.declared.io.ErrorKind.{ErrorKind}
-use Rattle.plan_types.specs.declared.requests.Kind.{Kind}
 use Rattle.text_lines.specs.Lines.{with_line_feed}
 use Rattle.plan_explain.specs.AfterCost.{line_after_cost}
 use Rattle.plan_explain.specs.IgnoredLimits.{ignored_limit_line}
+use Rattle.instance_read.specs.declared.formats.Format.{Format}
 use Rattle.auditor_cli.specs.Files.{AreBothRead, IsUnread}
 use Rattle.auditor_cli.specs.Reads.{FileRead}
 
@@ -24,8 +24,8 @@ abbrev pub ignored_limit_note_by : List ℕ → Option ℕ → List ℕ
 ignored_limit_note_by path None = []
 ignored_limit_note_by path (Some n) = with_line_feed (codes "planner: " ++ path ++ codes ": line " ++ decimal n ++ codes " sets a limit that no rule checks")
 
-abbrev pub ignored_limit_note : Kind → List ℕ → List ℕ → List ℕ
-ignored_limit_note kind path text = ignored_limit_note_by path (ignored_limit_line kind text)
+abbrev pub ignored_limit_note : Format → List ℕ → List ℕ → List ℕ
+ignored_limit_note format path text = ignored_limit_note_by path (ignored_limit_line format text)
 
 -- Two files were read, and the note on their texts was printed; nothing was printed if one of them can't be
 -- read.
@@ -38,9 +38,9 @@ abbrev pub PrintsNoteOnSolution : (List ℕ → List ℕ) → List ℕ → List 
 PrintsNoteOnSolution note instance solution was now before after = PrintsNoteOnTexts (λ x y. note y) instance solution was now before after
 
 -- The note on the solution is printed, and then the note on the instance of this kind.
-abbrev pub PrintsIgnored : Kind → List ℕ → List ℕ → List FileRead → List FileRead → Option (List ℕ) → Option (List ℕ) → Type 0
-PrintsIgnored kind instance solution was now before after =
-    PrintsNoteOnTexts (λ x y. ignored_line_note solution y ++ ignored_limit_note kind instance x) instance solution was now before after
+abbrev pub PrintsIgnored : Format → List ℕ → List ℕ → List FileRead → List FileRead → Option (List ℕ) → Option (List ℕ) → Type 0
+PrintsIgnored format instance solution was now before after =
+    PrintsNoteOnTexts (λ x y. ignored_line_note solution y ++ ignored_limit_note format instance x) instance solution was now before after
 
 -- The beginning of a note on line k of a list.
 abbrev pub place_text : List ℕ → ℕ → List ℕ

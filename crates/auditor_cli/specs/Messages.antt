@@ -4,8 +4,8 @@ use Rattle.std.specs.Io.KnownBytes.{Appends}
 use Rattle.std.specs.declared.io.ErrorKind.{ErrorKind}
 use Rattle.std.specs.declared.io.ErrorKind.TheVariants as kind
 use Rattle.std.specs.declared.alloc.AllocError.{AllocError}
-use Rattle.plan_types.specs.declared.requests.Kind.{Kind}
 use Rattle.text_lines.specs.Lines.{with_line_feed}
+use Rattle.instance_read.specs.declared.formats.Format.{Format}
 use Rattle.auditor_cli.specs.Answer.{IsAnswer}
 use Rattle.auditor_cli.specs.declared.answer.AuditAnswer.{AuditAnswer}
 
@@ -67,6 +67,6 @@ abbrev pub example_solution : List ℕ
 example_solution = codes "Route #1: 1 2\nCost 20\n"
 
 -- The audit of two texts is printed.
-abbrev pub PrintsAudit : Kind → List ℕ → List ℕ → Option (List ℕ) → Option (List ℕ) → ℕ → Type 0
-PrintsAudit kind instance solution before after status =
-    (answer : Result AuditAnswer AllocError) × IfOk answer (IsAnswer kind instance solution) × PrintsAnswer answer before after status
+abbrev pub PrintsAudit : Format → List ℕ → List ℕ → Option (List ℕ) → Option (List ℕ) → ℕ → Type 0
+PrintsAudit format instance solution before after status =
+    (answer : Result AuditAnswer AllocError) × IfOk answer (IsAnswer format instance solution) × PrintsAnswer answer before after status

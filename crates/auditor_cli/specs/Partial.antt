@@ -2,7 +2,6 @@
 use Rattle.std.specs.Prelude.{◌≡◌, ◌<◌, ◌≤◌, ◌⊎◌, ℕ, nat_lt, Bool, true, List, []}
 use Rattle.plan_types.specs.Instance.{Instance}
 use Rattle.plan_types.specs.declared.plans.Cost.{Cost}
-use Rattle.plan_types.specs.declared.requests.Kind.{Kind}
 use Rattle.route_sched.specs.Cost.{cost_of, used_count}
 use Rattle.sol_text.specs.declared.faults.SolFault.{SolFault}
 use Rattle.sol_text.specs.declared.faults.SolFaultKind.TheVariants.{NoCost}
@@ -10,6 +9,7 @@ use Rattle.plan_audit.specs.Verdict.{KeepsRules, planned, rule_number}
 use Rattle.plan_audit.specs.declared.rules.Rule.TheVariants.{LateReturn}
 use Rattle.plan_audit.specs.declared.rules.Verdict.{Verdict}
 use Rattle.plan_audit.specs.declared.rules.Verdict.TheVariants.{Broken, Pass}
+use Rattle.instance_read.specs.declared.formats.Format.{Format}
 use Rattle.auditor_cli.specs.Answer.{IsAnswer}
 use Rattle.auditor_cli.specs.AnswerText.{partial_text}
 use Rattle.auditor_cli.specs.Examination.{AreRoutesExamined, IsBadSolution, IsExamined}
@@ -49,38 +49,38 @@ IsNotPartial _ = Unit {0}
 
 -- The instance spells a problem, the solution only lacks its cost line, and its routes are a partial plan of the
 -- problem.
-pub record ArePartial (kind : Kind) (instance solution : List ℕ) (partial : PartialPlan) : Type 0 where
+pub record ArePartial (format : Format) (instance solution : List ℕ) (partial : PartialPlan) : Type 0 where
   pub fault : SolFault
-  pub refused : IsBadSolution kind instance solution fault
+  pub refused : IsBadSolution format instance solution fault
   pub lacks : fault.kind ≡ NoCost
   pub routes : Examination
-  pub are_routes : AreRoutesExamined kind instance solution routes
+  pub are_routes : AreRoutesExamined format instance solution routes
   pub is_partial : IsPartialOf routes partial
 
 -- The routes of the solution are not a partial plan of the instance's problem.
-pub record AreNotPartial (kind : Kind) (instance solution : List ℕ) : Type 0 where
+pub record AreNotPartial (format : Format) (instance solution : List ℕ) : Type 0 where
   pub routes : Examination
-  pub are_routes : AreRoutesExamined kind instance solution routes
+  pub are_routes : AreRoutesExamined format instance solution routes
   pub is_not_partial : IsNotPartial routes
 
 -- If a solution only lacks its cost line, its routes are not a partial plan.
-abbrev pub HasNoPartialPlan : Kind → List ℕ → List ℕ → Examination → Type 0
-HasNoPartialPlan kind instance solution (BadSolution fault) = fault.kind ≡ NoCost → AreNotPartial kind instance solution
-HasNoPartialPlan kind instance solution _ = Unit {0}
+abbrev pub HasNoPartialPlan : Format → List ℕ → List ℕ → Examination → Type 0
+HasNoPartialPlan format instance solution (BadSolution fault) = fault.kind ≡ NoCost → AreNotPartial format instance solution
+HasNoPartialPlan format instance solution _ = Unit {0}
 
 -- The result of examining two texts, of which the second one may be a partial plan.
-abbrev pub IsPlanExamined : Kind → List ℕ → List ℕ → PlanExamination → Type 0
-IsPlanExamined kind instance solution (Partial partial) = ArePartial kind instance solution partial
-IsPlanExamined kind instance solution (Whole examined) = IsExamined kind instance solution examined × HasNoPartialPlan kind instance solution examined
+abbrev pub IsPlanExamined : Format → List ℕ → List ℕ → PlanExamination → Type 0
+IsPlanExamined format instance solution (Partial partial) = ArePartial format instance solution partial
+IsPlanExamined format instance solution (Whole examined) = IsExamined format instance solution examined × HasNoPartialPlan format instance solution examined
 
 -- The answer for a partial plan. It has the status of a broken rule.
 abbrev pub partial_answer : Cost → AuditAnswer
 partial_answer cost = record { line = partial_text cost; status = 1 }
 
 -- The texts are a partial plan, and this is the answer.
-abbrev pub IsPartialAnswer : Kind → List ℕ → List ℕ → AuditAnswer → Type 0
-IsPartialAnswer kind instance solution answer = (partial : PartialPlan) × ArePartial kind instance solution partial × (answer ≡ partial_answer partial.cost)
+abbrev pub IsPartialAnswer : Format → List ℕ → List ℕ → AuditAnswer → Type 0
+IsPartialAnswer format instance solution answer = (partial : PartialPlan) × ArePartial format instance solution partial × (answer ≡ partial_answer partial.cost)
 
 -- The answer of an audit, or for a partial plan.
-abbrev pub IsPlanAnswer : Kind → List ℕ → List ℕ → AuditAnswer → Type 0
-IsPlanAnswer kind instance solution answer = IsAnswer kind instance solution answer ⊎ IsPartialAnswer kind instance solution answer
+abbrev pub IsPlanAnswer : Format → List ℕ → List ℕ → AuditAnswer → Type 0
+IsPlanAnswer format instance solution answer = IsAnswer format instance solution answer ⊎ IsPartialAnswer format instance solution answer

@@ -4,6 +4,7 @@ use Rattle.std.specs.Io.KnownBytes.{Appends}
 use Rattle.clap.specs.Words.{Text}
 use Rattle.command_line.specs.Invocations.{InvocationValue, IsUsageStatus, asks_help, audit, audits, built_in, explain}
 use Rattle.plan_types.specs.declared.requests.Kind.TheVariants.{LiLim}
+use Rattle.instance_read.specs.Formats.{format_of}
 use Rattle.text_lines.specs.Lines.{with_line_feed}
 use Rattle.auditor_cli.specs.IgnoredLines.{PrintsIgnored}
 use Rattle.auditor_cli.specs.Explain.{ExplainsFiles}
@@ -24,7 +25,7 @@ world files output errors = record { files = files; output = output; errors = er
 -- The files that a subcommand reads, even if an answer can't be printed.
 abbrev pub AreReadFor : InvocationValue → List FileRead → List FileRead → Type 0
 AreReadFor (audit paths routes_alone) was now = AreReadInTurn paths.instance paths.solution was now
-AreReadFor (audits kind list routes_alone) was now = IsReadFirst list was now
+AreReadFor (audits format list routes_alone) was now = IsReadFirst list was now
 AreReadFor (explain paths routes_alone) was now = AreReadInTurn paths.instance paths.solution was now
 AreReadFor _ was now = now ≡ was
 
@@ -34,15 +35,15 @@ planner_only_line = with_line_feed (codes "auditor: only planner has this comman
 
 -- The subcommand was executed and its answer printed, with this status.
 abbrev pub Does : InvocationValue → World → World → ℕ → Type 0
-Does built_in old new status = PrintsAudit LiLim example_instance example_solution old.output new.output status × (new.errors ≡ old.errors)
+Does built_in old new status = PrintsAudit (format_of LiLim) example_instance example_solution old.output new.output status × (new.errors ≡ old.errors)
 Does (audit paths routes_alone) old new status =
-    PrintsFiles routes_alone paths.kind paths.instance paths.solution old.files new.files old.output new.output status
-    × PrintsIgnored paths.kind paths.instance paths.solution old.files new.files old.errors new.errors
-Does (audits kind list routes_alone) old new status =
-    PrintsList routes_alone kind list old.files new.files old.output new.output old.errors new.errors status
+    PrintsFiles routes_alone paths.format paths.instance paths.solution old.files new.files old.output new.output status
+    × PrintsIgnored paths.format paths.instance paths.solution old.files new.files old.errors new.errors
+Does (audits format list routes_alone) old new status =
+    PrintsList routes_alone format list old.files new.files old.output new.output old.errors new.errors status
 Does (explain paths routes_alone) old new status =
-    ExplainsFiles routes_alone paths.kind paths.instance paths.solution old.files new.files old.output new.output status
-    × PrintsIgnored paths.kind paths.instance paths.solution old.files new.files old.errors new.errors
+    ExplainsFiles routes_alone paths.format paths.instance paths.solution old.files new.files old.output new.output status
+    × PrintsIgnored paths.format paths.instance paths.solution old.files new.files old.errors new.errors
 Does _ old new status = (status ≡ 64) × ((new.output ≡ old.output) × Appends old.errors new.errors planner_only_line)
 
 -- The command line was parsed. If an answer could not be printed, the status is 3.

@@ -1,5 +1,6 @@
 //! The audit of two texts.
 ghost use Rattle.std.specs.Prelude.{◌≡◌, ◌≢◌, ◌≤◌, IfOk};
+ghost use Rattle.instance_read.specs.Formats.{format_of};
 ghost use Rattle.auditor_cli.specs.Answer.{IsAnswer, IsAnswerBy, IsRoutesAnswer, JudgesSpelled, SaysRoutesSound, SaysSound, refused_answer, verdict_answer};
 ghost use Rattle.auditor_cli.specs.Examination.{AreExaminedForRoutes, AreRoutesExamined, IsExamined, IsExaminedBy, answer_of};
 ghost use Rattle.auditor_cli.specs.declared.audit.Examination.TheVariants.{BadInstance, BadSolution};
@@ -7,7 +8,7 @@ ghost use Rattle.auditor_cli.specs.declared.audit.Examination.TheVariants.{BadIn
 use crate::answer::{AuditAnswer, broken_line, fault_line, pass_line};
 use crate::routes_alone::routes_text;
 use crate::status::{BROKEN, DONE, REFUSED};
-use instance_read::{ReadFault, ReadFaultKind, read_instance};
+use instance_read::{Format, ReadFault, ReadFaultKind, read_instance};
 use plan_audit::{
     Verdict, audit_routes, audit_solution, routes_are_judged_by_true_cost, solutions_pass_iff_sound,
 };
@@ -15,7 +16,7 @@ use plan_types::{Kind, OutOfMemory, Problem};
 use sol_text::{SolFault, SolFaultKind, Solution, read_sol};
 use std::alloc::{AllocError, Global};
 
-/// Audits a solution against an instance.
+/// Audits a solution against an instance in this format.
 ///
 /// The line is `pass UNPLANNED VEHICLES DISTANCE` with status 0; or `broken RULE route R place P stop S` with
 /// status 1 for the lowest-numbered broken rule; or `instance NAME LINE` or `solution NAME LINE` with status 2
@@ -26,36 +27,55 @@ use std::alloc::{AllocError, Global};
 /// # Errors
 ///
 /// `OutOfMemory`.
+pub fn audit_in_format(
+    alloc: Global,
+    format: Format,
+    instance: &[u8],
+    solution: &[u8],
+) -> Result<AuditAnswer, OutOfMemory>
+    ensures answer { IfOk result (IsAnswer format instance.now solution.now) }
+    ensures verdict { IfOk result (JudgesSpelled format instance.now solution.now) }
+    ensures status { IfOk result (λ answer. answer.status ≤ 2) }
+    ensures sound { IfOk result (SaysSound format instance.now solution.now) }
+{
+    solutions_pass_iff_sound();
+    audit_both(alloc, format, instance, solution)
+}
+
+/// Audits a solution against an instance in the format that has the name of this kind, like `audit_in_format`.
+///
+/// # Errors
+///
+/// `OutOfMemory`.
 pub fn audit_text(
     alloc: Global,
     kind: Kind,
     instance: &[u8],
     solution: &[u8],
 ) -> Result<AuditAnswer, OutOfMemory>
-    ensures answer { IfOk result (IsAnswer kind instance.now solution.now) }
-    ensures verdict { IfOk result (JudgesSpelled kind instance.now solution.now) }
+    ensures answer { IfOk result (IsAnswer (format_of kind) instance.now solution.now) }
+    ensures verdict { IfOk result (JudgesSpelled (format_of kind) instance.now solution.now) }
     ensures status { IfOk result (λ answer. answer.status ≤ 2) }
-    ensures sound { IfOk result (SaysSound kind instance.now solution.now) }
+    ensures sound { IfOk result (SaysSound (format_of kind) instance.now solution.now) }
 {
-    solutions_pass_iff_sound();
-    audit_both(alloc, kind, instance, solution)
+    audit_in_format(alloc, Format::of_kind(kind), instance, solution)
 }
 
 fn audit_both(
     alloc: Global,
-    kind: Kind,
+    format: Format,
     instance: &[u8],
     solution: &[u8],
 ) -> Result<AuditAnswer, OutOfMemory>
-    ensures answer { IfOk result (IsAnswer kind instance.now solution.now) }
+    ensures answer { IfOk result (IsAnswer format instance.now solution.now) }
     ensures status { IfOk result (λ answer. answer.status ≤ 2) }
 {
-    let examined = examine(alloc, kind, instance, solution)?;
+    let examined = examine(alloc, format, instance, solution)?;
     answer_of(alloc, &examined)
 }
 
 /// Audits the routes of a solution against an instance, whatever cost the solution prints. It differs from
-/// `audit_text` in two ways: rule 11 is not checked, and the cost line may be missing or hold any word. So the
+/// `audit_in_format` in two ways: rule 11 is not checked, and the cost line may be missing or hold any word. So the
 /// status is 0 exactly if both texts can be parsed and the routes are sound, serve every request and use no
 /// more vehicles than there are. The line has the true distance of the routes.
 ///
@@ -64,47 +84,47 @@ fn audit_both(
 /// `OutOfMemory`.
 pub fn audit_routes_text(
     alloc: Global,
-    kind: Kind,
+    format: Format,
     instance: &[u8],
     solution: &[u8],
 ) -> Result<AuditAnswer, OutOfMemory>
-    ensures answer { IfOk result (IsRoutesAnswer kind instance.now solution.now) }
+    ensures answer { IfOk result (IsRoutesAnswer format instance.now solution.now) }
     ensures status { IfOk result (λ answer. answer.status ≤ 2) }
-    ensures sound { IfOk result (SaysRoutesSound kind instance.now solution.now) }
+    ensures sound { IfOk result (SaysRoutesSound format instance.now solution.now) }
 {
     solutions_pass_iff_sound();
     routes_are_judged_by_true_cost();
-    audit_both_routes(alloc, kind, instance, solution)
+    audit_both_routes(alloc, format, instance, solution)
 }
 
 fn audit_both_routes(
     alloc: Global,
-    kind: Kind,
+    format: Format,
     instance: &[u8],
     solution: &[u8],
 ) -> Result<AuditAnswer, OutOfMemory>
-    ensures answer { IfOk result (IsRoutesAnswer kind instance.now solution.now) }
+    ensures answer { IfOk result (IsRoutesAnswer format instance.now solution.now) }
     ensures status { IfOk result (λ answer. answer.status ≤ 2) }
 {
-    let examined = examine_routes(alloc, kind, instance, solution)?;
+    let examined = examine_routes(alloc, format, instance, solution)?;
     answer_of(alloc, &examined)
 }
 
 /// Audits a solution, or only its routes.
 pub(crate) fn audit_by(
     alloc: Global,
-    kind: Kind,
+    format: Format,
     routes_alone: bool,
     instance: &[u8],
     solution: &[u8],
 ) -> Result<AuditAnswer, OutOfMemory>
-    ensures answer { IfOk result (IsAnswerBy routes_alone kind instance.now solution.now) }
+    ensures answer { IfOk result (IsAnswerBy routes_alone format instance.now solution.now) }
     ensures status { IfOk result (λ answer. answer.status ≤ 2) }
 {
     if routes_alone {
-        audit_routes_text(alloc, kind, instance, solution)
+        audit_routes_text(alloc, format, instance, solution)
     } else {
-        audit_text(alloc, kind, instance, solution)
+        audit_in_format(alloc, format, instance, solution)
     }
 }
 
@@ -122,13 +142,13 @@ pub enum Examination {
 /// Parses both texts, the instance first, and audits the solution.
 pub fn examine(
     alloc: Global,
-    kind: Kind,
+    format: Format,
     instance: &[u8],
     solution: &[u8],
 ) -> Result<Examination, OutOfMemory>
-    ensures { IfOk result (IsExamined kind instance.now solution.now) }
+    ensures { IfOk result (IsExamined format instance.now solution.now) }
 {
-    let problem = match read_instance(alloc, kind, instance) {
+    let problem = match read_instance(alloc, format, instance) {
         Ok(problem) => problem,
         Err(fault) => return bad_instance(fault),
     };
@@ -144,25 +164,25 @@ pub fn examine(
 /// cost of 0, which is not used.
 pub(crate) fn examine_routes(
     alloc: Global,
-    kind: Kind,
+    format: Format,
     instance: &[u8],
     solution: &[u8],
 ) -> Result<Examination, OutOfMemory>
-    ensures { IfOk result (AreRoutesExamined kind instance.now solution.now) }
+    ensures { IfOk result (AreRoutesExamined format instance.now solution.now) }
 {
     let text = routes_text(alloc, solution)?;
-    examine_for_routes(alloc, kind, instance, &text)
+    examine_for_routes(alloc, format, instance, &text)
 }
 
 fn examine_for_routes(
     alloc: Global,
-    kind: Kind,
+    format: Format,
     instance: &[u8],
     text: &[u8],
 ) -> Result<Examination, OutOfMemory>
-    ensures { IfOk result (AreExaminedForRoutes kind instance.now text.now) }
+    ensures { IfOk result (AreExaminedForRoutes format instance.now text.now) }
 {
-    let problem = match read_instance(alloc, kind, instance) {
+    let problem = match read_instance(alloc, format, instance) {
         Ok(problem) => problem,
         Err(fault) => return bad_instance(fault),
     };
@@ -177,17 +197,17 @@ fn examine_for_routes(
 /// Parses both texts, and audits the solution or only its routes.
 pub(crate) fn examine_by(
     alloc: Global,
-    kind: Kind,
+    format: Format,
     routes_alone: bool,
     instance: &[u8],
     solution: &[u8],
 ) -> Result<Examination, OutOfMemory>
-    ensures { IfOk result (IsExaminedBy routes_alone kind instance.now solution.now) }
+    ensures { IfOk result (IsExaminedBy routes_alone format instance.now solution.now) }
 {
     if routes_alone {
-        examine_routes(alloc, kind, instance, solution)
+        examine_routes(alloc, format, instance, solution)
     } else {
-        examine(alloc, kind, instance, solution)
+        examine(alloc, format, instance, solution)
     }
 }
 

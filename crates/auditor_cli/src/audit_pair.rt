@@ -11,7 +11,7 @@ use crate::files::ReadFiles;
 use crate::ignored_lines::print_ignored;
 use crate::messages::{print_audit, print_read_failure};
 use command_line::Paths;
-use plan_types::Kind;
+use instance_read::Format;
 use std::alloc::Global;
 use std::io;
 use std::io::{ErrorKind, Write};
@@ -70,10 +70,10 @@ pub fn audit_files<F: ReadFiles, W: Write, E: Write>(
     ensures status { IfOk result (λ status. status ≤ 4) }
     ensures reads { AreReadInTurn paths.entry.instance.now paths.entry.solution.now
         (F.reads files.old) (F.reads files.new) }
-    ensures reported { IfOk result (λ status. PrintsFiles routes_alone paths.entry.kind
+    ensures reported { IfOk result (λ status. PrintsFiles routes_alone paths.entry.format
         paths.entry.instance.now paths.entry.solution.now (F.reads files.old) (F.reads files.new)
         (W.contents output.old) (W.contents output.new) status
-        × PrintsIgnored paths.entry.kind paths.entry.instance.now paths.entry.solution.now
+        × PrintsIgnored paths.entry.format paths.entry.instance.now paths.entry.solution.now
         (F.reads files.old) (F.reads files.new)
         (E.contents errors.old) (E.contents errors.new)) }
 {
@@ -94,13 +94,20 @@ fn print_both<W: Write, E: Write>(
     errors: &mut E,
 ) -> io::Result<u8>
     ensures status { IfOk result (λ status. status ≤ 4) }
-    ensures reported { IfOk result (λ status. PrintsTextsBy (IsAnswerBy routes_alone paths.entry.kind)
+    ensures reported { IfOk result (λ status. PrintsTextsBy (IsAnswerBy routes_alone paths.entry.format)
         instance.now solution.now (W.contents output.old) (W.contents output.new) status
         × Appends (E.contents errors.old) (E.contents errors.new)
         (ignored_line_note paths.entry.solution.now solution.now
-        ++ ignored_limit_note paths.entry.kind paths.entry.instance.now instance.now)) }
+        ++ ignored_limit_note paths.entry.format paths.entry.instance.now instance.now)) }
 {
-    let status = print_answer(alloc, paths.kind, routes_alone, instance, solution, output)?;
+    let status = print_answer(
+        alloc,
+        paths.format,
+        routes_alone,
+        instance,
+        solution,
+        output,
+    )?;
     print_ignored(paths, instance, solution, errors)?;
     Ok(status)
 }
@@ -108,18 +115,18 @@ fn print_both<W: Write, E: Write>(
 // Prints the audit of both texts.
 fn print_answer<W: Write>(
     alloc: Global,
-    kind: Kind,
+    format: Format,
     routes_alone: bool,
     instance: &[u8],
     solution: &[u8],
     output: &mut W,
 ) -> io::Result<u8>
     ensures status { IfOk result (λ status. status ≤ 4) }
-    ensures reported { IfOk result (PrintsTextsBy (IsAnswerBy routes_alone kind)
+    ensures reported { IfOk result (PrintsTextsBy (IsAnswerBy routes_alone format)
         instance.now solution.now (W.contents output.old) (W.contents output.new)) }
 {
     print_audit(
         output,
-        &audit_by(alloc, kind, routes_alone, instance, solution),
+        &audit_by(alloc, format, routes_alone, instance, solution),
     )
 }

@@ -16,7 +16,7 @@ use crate::ignored_lines::ListLine;
 use crate::messages::{print_read_failure, write_line};
 use crate::status::{DONE, REFUSED};
 use command_line::Paths;
-use plan_types::Kind;
+use instance_read::Format;
 use std::alloc::Global;
 use std::io::{ErrorKind, Write};
 use std::{io, str};
@@ -25,7 +25,7 @@ use text_lines::Lines;
 /// A list, given by the path of its file, and the way in which its lines are audited.
 #[derive(Clone, Copy)]
 struct AuditList<'a> {
-    kind: Kind,
+    format: Format,
     path: &'a str,
     routes_alone: bool,
 }
@@ -35,7 +35,7 @@ struct AuditList<'a> {
 /// lines of a solution. Returns the worst status.
 pub fn audit_list<F: ReadFiles, W: Write, E: Write>(
     alloc: Global,
-    kind: Kind,
+    format: Format,
     list: &str,
     routes_alone: bool,
     files: &mut F,
@@ -44,7 +44,7 @@ pub fn audit_list<F: ReadFiles, W: Write, E: Write>(
 ) -> io::Result<u8>
     ensures status { IfOk result (λ status. status ≤ 4) }
     ensures reads { IsReadFirst list.now (F.reads files.old) (F.reads files.new) }
-    ensures reported { IfOk result (PrintsList routes_alone kind list.now
+    ensures reported { IfOk result (PrintsList routes_alone format list.now
         (F.reads files.old) (F.reads files.new)
         (W.contents output.old) (W.contents output.new)
         (E.contents errors.old) (E.contents errors.new)) }
@@ -52,7 +52,7 @@ pub fn audit_list<F: ReadFiles, W: Write, E: Write>(
     match files.open(list) {
         Ok(opened) => {
             let asked = AuditList {
-                kind,
+                format,
                 path: list,
                 routes_alone,
             };
@@ -73,7 +73,7 @@ fn audit_opened<F: ReadFiles, W: Write, E: Write>(
 ) -> io::Result<u8>
     ensures status { IfOk result (λ status. status ≤ 4) }
     ensures reads { IsReadFirst asked.entry.path.now (F.reads files.old) (F.reads files.new) }
-    ensures reported { IfOk result (PrintsList asked.entry.routes_alone asked.entry.kind
+    ensures reported { IfOk result (PrintsList asked.entry.routes_alone asked.entry.format
         asked.entry.path.now (F.reads files.old) (F.reads files.new)
         (W.contents output.old) (W.contents output.new)
         (E.contents errors.old) (E.contents errors.new)) }
@@ -132,7 +132,7 @@ fn audit_lines<F: ReadFiles, W: Write, E: Write>(
     ensures status { IfOk result (λ status. status ≤ 4) }
     ensures reads { IsGrown (F.reads files.old) (F.reads files.new) }
     ensures reported { IfOk result (PrintsLines
-        (IsAudited asked.entry.routes_alone asked.entry.kind asked.entry.path.now) lines.entry
+        (IsAudited asked.entry.routes_alone asked.entry.format asked.entry.path.now) lines.entry
         (list_state (F.reads files.old) (E.contents errors.old) answered.old)
         (list_state (F.reads files.new) (E.contents errors.new) answered.new)
         (W.contents output.old) (W.contents output.new)) }
@@ -180,7 +180,7 @@ fn audit_line<F: ReadFiles, W: Write, E: Write>(
     ensures status { IfOk result (λ status. status ≤ 4) }
     ensures reads { IsGrown (F.reads files.old) (F.reads files.new) }
     ensures reported { (answered : ℕ) → number ≡ next_number answered → IfOk result (PrintsLine
-        (IsAudited asked.entry.routes_alone asked.entry.kind asked.entry.path.now) line.now
+        (IsAudited asked.entry.routes_alone asked.entry.format asked.entry.path.now) line.now
         (list_state (F.reads files.old) (E.contents errors.old) answered)
         (list_state (F.reads files.new) (E.contents errors.new) number)
         (W.contents output.old) (W.contents output.new)) }
@@ -189,9 +189,9 @@ fn audit_line<F: ReadFiles, W: Write, E: Write>(
         list: asked.path,
         number,
     };
-    let pair = match listed_pair(asked.kind, line) {
+    let pair = match listed_pair(asked.format, line) {
         Some(pair) => pair,
-        None => return print_bad_line_with_reason(place, asked.kind, line, output, errors),
+        None => return print_bad_line_with_reason(place, asked.format, line, output, errors),
     };
     let instance = pair.paths.instance;
     let solution = pair.paths.solution;
@@ -210,7 +210,7 @@ fn audit_line<F: ReadFiles, W: Write, E: Write>(
 // Prints that a line is bad, and the reason on `errors`.
 fn print_bad_line_with_reason<W: Write, E: Write>(
     place: ListLine<'_>,
-    kind: Kind,
+    format: Format,
     line: &[u8],
     output: &mut W,
     errors: &mut E,
@@ -218,10 +218,10 @@ fn print_bad_line_with_reason<W: Write, E: Write>(
     ensures { IfOk result (λ status. (status ≡ 2)
         × Appends (W.contents output.old) (W.contents output.new) (with_line_feed (codes "bad line"))
         × Appends (E.contents errors.old) (E.contents errors.new)
-        (bad_note place.entry.list.now place.entry.number (bad_reason kind line.now))) }
+        (bad_note place.entry.list.now place.entry.number (bad_reason format line.now))) }
 {
     let status = print_bad_line(output)?;
-    print_bad_line_reason(place, kind, line, errors)?;
+    print_bad_line_reason(place, format, line, errors)?;
     Ok(status)
 }
 
@@ -274,22 +274,22 @@ fn is_path(path: &[u8]) -> bool
 }
 
 // Returns the files that a line names, with the best-known cost after them, if there is one.
-fn listed_pair(kind: Kind, line: &[u8]) -> Option<ListedPair<'_>>
-    ensures { MatchOption result (NamesNone line.now × ComparesNone kind line.now)
-        (λ pair. (pair.paths.kind ≡ kind) × IsListedPair kind line.now
+fn listed_pair(format: Format, line: &[u8]) -> Option<ListedPair<'_>>
+    ensures { MatchOption result (NamesNone line.now × ComparesNone format line.now)
+        (λ pair. (pair.paths.format ≡ format) × IsListedPair format line.now
         pair.paths.instance.now pair.paths.solution.now pair.best) }
 {
     if let Some((instance, solution)) = pair_of(line) {
         let paths = Paths {
-            kind,
+            format,
             instance,
             solution,
         };
         return Some(ListedPair { paths, best: None });
     }
-    let (instance, solution, best) = compared_of(kind, line)?;
+    let (instance, solution, best) = compared_of(format, line)?;
     let paths = Paths {
-        kind,
+        format,
         instance,
         solution,
     };
@@ -300,11 +300,11 @@ fn listed_pair(kind: Kind, line: &[u8]) -> Option<ListedPair<'_>>
 }
 
 // Returns the paths of an instance and a solution, and a best-known cost, which are separated by tabs.
-fn compared_of(kind: Kind, line: &[u8]) -> Option<(&str, &str, BestKnown)>
-    ensures { MatchOption result (ComparesNone kind line.now)
-        (λ p. IsComparedPair kind line.now p.0.now p.1.now p.2) }
+fn compared_of(format: Format, line: &[u8]) -> Option<(&str, &str, BestKnown)>
+    ensures { MatchOption result (ComparesNone format line.now)
+        (λ p. IsComparedPair format line.now p.0.now p.1.now p.2) }
 {
-    let (instance, solution, best) = match compared_parts(kind, line) {
+    let (instance, solution, best) = match compared_parts(format, line) {
         Some(parts) => parts,
         None => return None,
     };
@@ -319,8 +319,8 @@ fn compared_of(kind: Kind, line: &[u8]) -> Option<(&str, &str, BestKnown)>
 
 // Returns the columns of a line with two tabs, if neither path is empty and the last column is a best-known
 // cost.
-fn compared_parts(kind: Kind, line: &[u8]) -> Option<(&[u8], &[u8], BestKnown)>
-    ensures { option_map (λ p. (p.0.now, p.1.now, p.2)) result ≡ compared_parts kind line.now }
+fn compared_parts(format: Format, line: &[u8]) -> Option<(&[u8], &[u8], BestKnown)>
+    ensures { option_map (λ p. (p.0.now, p.1.now, p.2)) result ≡ compared_parts format line.now }
 {
     let Some((instance, rest)) = cut(line) else {
         return None;
@@ -331,7 +331,7 @@ fn compared_parts(kind: Kind, line: &[u8]) -> Option<(&[u8], &[u8], BestKnown)>
     if instance.is_empty() || solution.is_empty() {
         return None;
     }
-    let Some(best) = BestKnown::read(kind, column) else {
+    let Some(best) = BestKnown::read(format, column) else {
         return None;
     };
     Some((instance, solution, best))

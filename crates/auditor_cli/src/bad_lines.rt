@@ -6,6 +6,7 @@ ghost use Rattle.auditor_cli.specs.BadLines.{bad_note, bad_reason, columns_reaso
 use crate::best_known::BestKnown;
 use crate::columns::{cut, tab_at};
 use crate::ignored_lines::ListLine;
+use instance_read::Format;
 use plan_types::Kind;
 use std::io;
 use std::io::Write;
@@ -13,20 +14,20 @@ use std::io::Write;
 /// Prints which line of a list is bad, and why.
 pub(crate) fn print_bad_line_reason<E: Write>(
     place: ListLine<'_>,
-    kind: Kind,
+    format: Format,
     line: &[u8],
     errors: &mut E,
 ) -> io::Result<()>
     ensures { OnOk result (Appends (E.contents errors.old) (E.contents errors.new)
-        (bad_note place.entry.list.now place.entry.number (bad_reason kind line.now))) }
+        (bad_note place.entry.list.now place.entry.number (bad_reason format line.now))) }
 {
     let ListLine { list, number } = place;
-    let reason = bad_reason(kind, line);
+    let reason = bad_reason(format, line);
     writeln!(errors, "planner: {list}: line {number}: bad line: {reason}")
 }
 
-fn bad_reason(kind: Kind, line: &[u8]) -> &'static str
-    ensures { result.now ≡ bad_reason kind line.now }
+fn bad_reason(format: Format, line: &[u8]) -> &'static str
+    ensures { result.now ≡ bad_reason format line.now }
 {
     let Some((instance, rest)) = cut(line) else {
         return if line.is_empty() {
@@ -37,18 +38,18 @@ fn bad_reason(kind: Kind, line: &[u8]) -> &'static str
     };
     match cut(rest) {
         None => paths_reason(instance, rest),
-        Some((solution, column)) => columns_reason(kind, instance, solution, column),
+        Some((solution, column)) => columns_reason(format, instance, solution, column),
     }
 }
 
-fn columns_reason(kind: Kind, instance: &[u8], solution: &[u8], column: &[u8]) -> &'static str
-    ensures { result.now ≡ columns_reason kind instance.now solution.now column.now }
+fn columns_reason(format: Format, instance: &[u8], solution: &[u8], column: &[u8]) -> &'static str
+    ensures { result.now ≡ columns_reason format instance.now solution.now column.now }
 {
     if tab_at(column) < column.len() {
         return "it has more than two tabs";
     }
-    if BestKnown::read(kind, column).is_none() {
-        return cost_reason(kind);
+    if BestKnown::read(format, column).is_none() {
+        return cost_reason(format.kind());
     }
     paths_reason(instance, solution)
 }

@@ -3,6 +3,7 @@ ghost use Rattle.std.specs.Prelude.{◌≡◌, IfOk, option_map, string_bytes};
 ghost use Rattle.auditor_cli.specs.BestKnown.{best_among, best_in, best_of, comparison_text, has_tab};
 
 use crate::gaps::{gap_text, vehicles_text};
+use instance_read::Format;
 use plan_types::{Cost, Kind, OutOfMemory};
 use std::alloc::Global;
 use std::marker::Model;
@@ -28,13 +29,13 @@ impl Model for BestKnown {
 }
 
 impl BestKnown {
-    /// Reads `DISTANCE`, or for an instance of kind `LiLim` also `VEHICLES DISTANCE`, with blanks between and
+    /// Reads `DISTANCE`, or for a problem of kind `LiLim` also `VEHICLES DISTANCE`, with blanks between and
     /// around the words.
     ///
     /// The distance is written like the cost of a solution, the vehicles as digits only. Returns `None` if the
     /// distance is 0.
-    pub fn read(kind: Kind, text: &[u8]) -> Option<BestKnown>
-        ensures { result ≡ best_in kind text.now }
+    pub fn read(format: Format, text: &[u8]) -> Option<BestKnown>
+        ensures { result ≡ best_in format text.now }
     {
         if has_tab(text) {
             return None;
@@ -43,7 +44,7 @@ impl BestKnown {
         let first = words.next()?;
         let second = words.next();
         match words.next() {
-            None => best_among(kind, first, second),
+            None => best_among(format.kind(), first, second),
             Some(_) => None,
         }
     }

@@ -16,8 +16,9 @@ use crate::ignored_lines::{ListLine, print_listed_ignored_line};
 use crate::messages::{print_audit, print_read_failure};
 use crate::status::DONE;
 use command_line::Paths;
+use instance_read::Format;
 use plan_audit::Verdict;
-use plan_types::{Cost, Kind, OutOfMemory};
+use plan_types::{Cost, OutOfMemory};
 use std::alloc::Global;
 use std::io;
 use std::io::Write;
@@ -45,7 +46,7 @@ pub(crate) fn compare_files<F: ReadFiles, W: Write, E: Write>(
     ensures reads { AreReadInTurn pair.now.paths.instance.now pair.now.paths.solution.now
         (F.reads files.old) (F.reads files.new) }
     ensures reported { IfOk result (λ status. PrintsFilesBy
-        (IsListedAnswer routes_alone pair.now.paths.kind pair.now.best)
+        (IsListedAnswer routes_alone pair.now.paths.format pair.now.best)
         pair.now.paths.instance.now pair.now.paths.solution.now
         (F.reads files.old) (F.reads files.new)
         (W.contents output.old) (W.contents output.new) status
@@ -83,7 +84,7 @@ fn print_listed<W: Write, E: Write>(
 ) -> io::Result<u8>
     ensures status { IfOk result (λ status. status ≤ 4) }
     ensures reported { IfOk result (λ status. PrintsTextsBy
-        (IsListedAnswer routes_alone pair.now.paths.kind pair.now.best)
+        (IsListedAnswer routes_alone pair.now.paths.format pair.now.best)
         instance.now solution.now (W.contents output.old) (W.contents output.new) status
         × Appends (E.contents errors.old) (E.contents errors.new)
         (listed_note place.entry.list.now place.entry.number pair.now.paths.solution.now
@@ -105,7 +106,7 @@ fn print_answer<W: Write>(
 ) -> io::Result<u8>
     ensures status { IfOk result (λ status. status ≤ 4) }
     ensures reported { IfOk result (PrintsTextsBy
-        (IsListedAnswer routes_alone pair.now.paths.kind pair.now.best)
+        (IsListedAnswer routes_alone pair.now.paths.format pair.now.best)
         instance.now solution.now (W.contents output.old) (W.contents output.new)) }
 {
     let answer = listed_answer(alloc, pair, routes_alone, instance, solution);
@@ -120,30 +121,30 @@ fn listed_answer(
     instance: &[u8],
     solution: &[u8],
 ) -> Result<AuditAnswer, OutOfMemory>
-    ensures answer { IfOk result (IsListedAnswer routes_alone pair.now.paths.kind pair.now.best
+    ensures answer { IfOk result (IsListedAnswer routes_alone pair.now.paths.format pair.now.best
         instance.now solution.now) }
     ensures status { IfOk result (λ answer. answer.status ≤ 2) }
 {
-    let kind = pair.paths.kind;
+    let format = pair.paths.format;
     match &pair.best {
-        Some(best) => compare_text(alloc, kind, routes_alone, best, instance, solution),
-        None => audit_by(alloc, kind, routes_alone, instance, solution),
+        Some(best) => compare_text(alloc, format, routes_alone, best, instance, solution),
+        None => audit_by(alloc, format, routes_alone, instance, solution),
     }
 }
 
 fn compare_text(
     alloc: Global,
-    kind: Kind,
+    format: Format,
     routes_alone: bool,
     best: &BestKnown,
     instance: &[u8],
     solution: &[u8],
 ) -> Result<AuditAnswer, OutOfMemory>
     ensures answer { IfOk result
-        (IsComparedAnswer routes_alone kind best.now instance.now solution.now) }
+        (IsComparedAnswer routes_alone format best.now instance.now solution.now) }
     ensures status { IfOk result (λ answer. answer.status ≤ 2) }
 {
-    let examined = examine_by(alloc, kind, routes_alone, instance, solution)?;
+    let examined = examine_by(alloc, format, routes_alone, instance, solution)?;
     compared_answer(alloc, best, &examined)
 }
 

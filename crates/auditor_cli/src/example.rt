@@ -1,6 +1,7 @@
 //! The audit of the two built-in texts.
 ghost use Rattle.std.specs.Prelude.{◌≡◌, ◌≤◌, IfOk};
 ghost use Rattle.plan_types.specs.declared.requests.Kind.TheVariants.{LiLim};
+ghost use Rattle.instance_read.specs.Formats.{format_of};
 ghost use Rattle.auditor_cli.specs.Messages.{PrintsAudit, example_instance, example_solution};
 
 use crate::audit::audit_text;
@@ -19,7 +20,7 @@ const EXAMPLE_SOLUTION: &str = "Route #1: 1 2\nCost 20\n";
 /// Prints the audit of the two built-in texts.
 pub fn audit_example<W: Write>(alloc: Global, output: &mut W) -> io::Result<u8>
     ensures status { IfOk result (λ status. status ≤ 4) }
-    ensures reported { IfOk result (PrintsAudit LiLim example_instance example_solution
+    ensures reported { IfOk result (PrintsAudit (format_of LiLim) example_instance example_solution
         (W.contents output.old) (W.contents output.new)) }
 {
     let instance = EXAMPLE_INSTANCE.as_bytes();

@@ -14,11 +14,12 @@ use crate::files::ReadFiles;
 use crate::ignored_lines::print_ignored;
 use crate::messages::{print_out_of_memory, print_read_failure, write_line};
 use command_line::Paths;
+use instance_read::Format;
 use plan_audit::routes_are_judged_by_true_cost;
 use plan_explain::{
     explain_distance, explain_instance_fault, explain_solution_fault, explain_verdict,
 };
-use plan_types::{Kind, OutOfMemory};
+use plan_types::OutOfMemory;
 use sol_text::SolFault;
 use std::alloc::Global;
 use std::io;
@@ -44,10 +45,10 @@ pub fn explain_files<F: ReadFiles, W: Write, E: Write>(
     ensures status { IfOk result (λ status. status ≤ 4) }
     ensures reads { AreReadInTurn paths.entry.instance.now paths.entry.solution.now
         (F.reads files.old) (F.reads files.new) }
-    ensures reported { IfOk result (λ status. ExplainsFiles routes_alone paths.entry.kind
+    ensures reported { IfOk result (λ status. ExplainsFiles routes_alone paths.entry.format
         paths.entry.instance.now paths.entry.solution.now (F.reads files.old) (F.reads files.new)
         (W.contents output.old) (W.contents output.new) status
-        × PrintsIgnored paths.entry.kind paths.entry.instance.now paths.entry.solution.now
+        × PrintsIgnored paths.entry.format paths.entry.instance.now paths.entry.solution.now
         (F.reads files.old) (F.reads files.new)
         (E.contents errors.old) (E.contents errors.new)) }
 {
@@ -68,15 +69,15 @@ fn print_both<W: Write, E: Write>(
     errors: &mut E,
 ) -> io::Result<u8>
     ensures status { IfOk result (λ status. status ≤ 4) }
-    ensures reported { IfOk result (λ status. ExplainsTexts routes_alone paths.entry.kind
+    ensures reported { IfOk result (λ status. ExplainsTexts routes_alone paths.entry.format
         instance.now solution.now (W.contents output.old) (W.contents output.new) status
         × Appends (E.contents errors.old) (E.contents errors.new)
         (ignored_line_note paths.entry.solution.now solution.now
-        ++ ignored_limit_note paths.entry.kind paths.entry.instance.now instance.now)) }
+        ++ ignored_limit_note paths.entry.format paths.entry.instance.now instance.now)) }
 {
     let status = print_texts_explained(
         alloc,
-        paths.kind,
+        paths.format,
         routes_alone,
         instance,
         solution,
@@ -89,17 +90,17 @@ fn print_both<W: Write, E: Write>(
 // Prints the explained audit of both texts.
 fn print_texts_explained<W: Write>(
     alloc: Global,
-    kind: Kind,
+    format: Format,
     routes_alone: bool,
     instance: &[u8],
     solution: &[u8],
     output: &mut W,
 ) -> io::Result<u8>
     ensures status { IfOk result (λ status. status ≤ 4) }
-    ensures reported { IfOk result (ExplainsTexts routes_alone kind
+    ensures reported { IfOk result (ExplainsTexts routes_alone format
         instance.now solution.now (W.contents output.old) (W.contents output.new)) }
 {
-    let explained = explain(alloc, kind, routes_alone, instance, solution);
+    let explained = explain(alloc, format, routes_alone, instance, solution);
     print_explanation_result(output, &explained)
 }
 
@@ -130,55 +131,55 @@ pub fn print_explanation<W: Write>(output: &mut W, explanation: &Explanation) ->
 // Audits a solution, or only its routes, against an instance, and explains the answer.
 fn explain(
     alloc: Global,
-    kind: Kind,
+    format: Format,
     routes_alone: bool,
     instance: &[u8],
     solution: &[u8],
 ) -> Result<Explanation, OutOfMemory>
     ensures answer { IfOk result (λ explanation.
-        IsAnswerBy routes_alone kind instance.now solution.now explanation.answer) }
-    ensures explains { IfOk result (IsExplanation routes_alone kind instance.now solution.now) }
+        IsAnswerBy routes_alone format instance.now solution.now explanation.answer) }
+    ensures explains { IfOk result (IsExplanation routes_alone format instance.now solution.now) }
     ensures status { IfOk result (λ explanation. explanation.answer.status ≤ 2) }
 {
     routes_are_judged_by_true_cost();
-    let examined = examine_by(alloc, kind, routes_alone, instance, solution)?;
-    explanation_of(alloc, kind, instance, solution, &examined)
+    let examined = examine_by(alloc, format, routes_alone, instance, solution)?;
+    explanation_of(alloc, format, instance, solution, &examined)
 }
 
 // Returns the answer for the examined texts, and its explanation.
 fn explanation_of(
     alloc: Global,
-    kind: Kind,
+    format: Format,
     instance: &[u8],
     solution: &[u8],
     examined: &Examination,
 ) -> Result<Explanation, OutOfMemory>
     requires { HasVerdictForSomeCost examined.now }
     ensures answer { IfOk result (λ explanation. explanation.answer ≡ answer_of examined.now) }
-    ensures rests { IfOk result (λ explanation. RestsOn kind instance.now solution.now
+    ensures rests { IfOk result (λ explanation. RestsOn format instance.now solution.now
         examined.now (string_bytes explanation.text)) }
 {
     let answer = answer_of(alloc, examined)?;
-    let text = rests_on(alloc, kind, instance, solution, examined)?;
+    let text = rests_on(alloc, format, instance, solution, examined)?;
     Ok(Explanation { answer, text })
 }
 
 // Returns the explanation of the answer for two texts.
 fn rests_on(
     alloc: Global,
-    kind: Kind,
+    format: Format,
     instance: &[u8],
     solution: &[u8],
     examined: &Examination,
 ) -> Result<String, OutOfMemory>
     requires { HasVerdictForSomeCost examined.now }
-    ensures { IfOk result (λ text. RestsOn kind instance.now solution.now examined.now
+    ensures { IfOk result (λ text. RestsOn format instance.now solution.now examined.now
         (string_bytes text)) }
 {
     match examined {
-        Examination::BadInstance(fault) => explain_instance_fault(alloc, kind, instance, *fault),
+        Examination::BadInstance(fault) => explain_instance_fault(alloc, format, instance, *fault),
         Examination::BadSolution(fault) => {
-            rests_on_fault(alloc, kind, instance, solution, *fault)
+            rests_on_fault(alloc, format, instance, solution, *fault)
         }
         Examination::Judged(problem, plan, verdict) => explain_verdict(
             alloc, problem, plan, *verdict,
@@ -189,16 +190,16 @@ fn rests_on(
 // Returns the explanation for a solution that is refused, and the distance of its routes.
 fn rests_on_fault(
     alloc: Global,
-    kind: Kind,
+    format: Format,
     instance: &[u8],
     solution: &[u8],
     fault: SolFault,
 ) -> Result<String, OutOfMemory>
-    ensures { IfOk result (λ text. RestsOnFault kind instance.now solution.now fault
+    ensures { IfOk result (λ text. RestsOnFault format instance.now solution.now fault
         (string_bytes text)) }
 {
     let mut text = explain_solution_fault(alloc, solution, fault)?;
-    let driven = routes_distance(alloc, kind, instance, solution)?;
+    let driven = routes_distance(alloc, format, instance, solution)?;
     text.push_str(driven.as_str())?;
     Ok(text)
 }
@@ -206,15 +207,15 @@ fn rests_on_fault(
 // Returns the line with the distance of the solution's routes, if they can be parsed.
 fn routes_distance(
     alloc: Global,
-    kind: Kind,
+    format: Format,
     instance: &[u8],
     solution: &[u8],
 ) -> Result<String, OutOfMemory>
-    ensures { IfOk result (λ text. GivesRoutesDistance kind instance.now solution.now
+    ensures { IfOk result (λ text. GivesRoutesDistance format instance.now solution.now
         (string_bytes text)) }
 {
     routes_are_judged_by_true_cost();
-    let routes = examine_by(alloc, kind, true, instance, solution)?;
+    let routes = examine_by(alloc, format, true, instance, solution)?;
     distance_of_routes(alloc, &routes)
 }
 

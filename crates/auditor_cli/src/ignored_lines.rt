@@ -5,8 +5,8 @@ ghost use Rattle.std.specs.Io.KnownBytes.{Appends};
 ghost use Rattle.auditor_cli.specs.IgnoredLines.{ignored_line_note, ignored_limit_note, listed_note_by, listed_note, place_text};
 
 use command_line::Paths;
+use instance_read::Format;
 use plan_explain::{ignored_limit_line, line_after_cost};
-use plan_types::Kind;
 use std::io;
 use std::io::Write;
 
@@ -30,15 +30,15 @@ pub fn print_ignored_line<E: Write>(path: &str, solution: &[u8], errors: &mut E)
 /// Prints the number of the first line of the instance that names a limit which is not checked, if there is one.
 /// `path` is the instance's file.
 pub fn print_ignored_limit<E: Write>(
-    kind: Kind,
+    format: Format,
     path: &str,
     instance: &[u8],
     errors: &mut E,
 ) -> io::Result<()>
     ensures { OnOk result (Appends (E.contents errors.old) (E.contents errors.new)
-        (ignored_limit_note kind path.now instance.now)) }
+        (ignored_limit_note format path.now instance.now)) }
 {
-    match ignored_limit_line(kind, instance) {
+    match ignored_limit_line(format, instance) {
         Some(number) => {
             writeln!(
                 errors,
@@ -58,10 +58,10 @@ pub(crate) fn print_ignored<E: Write>(
 ) -> io::Result<()>
     ensures { OnOk result (Appends (E.contents errors.old) (E.contents errors.new)
         (ignored_line_note paths.entry.solution.now solution.now
-        ++ ignored_limit_note paths.entry.kind paths.entry.instance.now instance.now)) }
+        ++ ignored_limit_note paths.entry.format paths.entry.instance.now instance.now)) }
 {
     print_ignored_line(paths.solution, solution, errors)?;
-    print_ignored_limit(paths.kind, paths.instance, instance, errors)
+    print_ignored_limit(paths.format, paths.instance, instance, errors)
 }
 
 /// A line of a list, given by the path of the list and the number of the line, from 1.

@@ -2,8 +2,8 @@
 //! This crate needs neither the search nor the store, so the program `auditor` builds without them.
 //!
 //! Entry functions: `audit_args`, called by `auditor`, executes a command line that requests an audit.
-//! `audit_text` audits two texts in memory. `planner_cli` calls the functions of the single subcommands, and
-//! uses the types that read and make files.
+//! `audit_in_format` and `audit_text` audit two texts in memory. `planner_cli` calls the functions of the single
+//! subcommands, and uses the types that read and make files.
 //!
 //! Source: this project's own; status 64 is `EX_USAGE` of BSD's `sysexits.h`.
 //!
@@ -26,13 +26,13 @@
 //! - `explain`: the subcommand `explain`
 //! - `program`: `audit_args`
 //!
-//! Proved for `audit_text` and `audit_routes_text`: the answer is that of the first fault, or that of the
-//! verdict on the problem and the solution that the two texts spell. The status is 0 exactly if the solution is
-//! sound, serves every request, uses no more vehicles than there are, and, for `audit_text`, prints its true
-//! distance (`SaysSound`, `SaysRoutesSound`). Proved for `audit_args`, if no argument except `-` begins with a
-//! hyphen (`EndsWith`): which files are read, in which order, and the status; and what is printed, unless the
-//! output fails. No contract covers what the system's files contain: `HostFiles` and `HostNewFiles` record each
-//! file with the result of reading or writing it.
+//! Proved for `audit_in_format`, `audit_text` and `audit_routes_text`: the answer is that of the first fault, or
+//! that of the verdict on the problem and the solution that the two texts spell. The status is 0 exactly if the
+//! solution is sound, serves every request, uses no more vehicles than there are, and, except for
+//! `audit_routes_text`, prints its true distance (`SaysSound`, `SaysRoutesSound`). Proved for `audit_args`, if no
+//! argument except `-` begins with a hyphen (`EndsWith`): which files are read, in which order, and the status;
+//! and what is printed, unless the output fails. No contract covers what the system's files contain: `HostFiles`
+//! and `HostNewFiles` record each file with the result of reading or writing it.
 #![tactic(auto)]
 
 mod answer;
@@ -57,7 +57,7 @@ pub mod status;
 mod usage;
 
 pub use answer::{AuditAnswer, AuditLine, planned_line};
-pub use audit::{Examination, answer_of, audit_routes_text, audit_text, examine};
+pub use audit::{Examination, answer_of, audit_in_format, audit_routes_text, audit_text, examine};
 pub use audit_pair::{audit_files, read_both};
 pub use audits::{audit_list, pair_of, print_bad_line, worse_status};
 pub use best_known::BestKnown;

@@ -6,8 +6,9 @@ ghost use Rattle.auditor_cli.specs.Partial.{IsCostOfPartial, IsNotPartial, IsPar
 use crate::answer::{AuditAnswer, partial_line};
 use crate::audit::{Examination, examine, examine_routes};
 use crate::status::BROKEN;
+use instance_read::Format;
 use plan_audit::{Rule, Verdict, audit};
-use plan_types::{Cost, Kind, OutOfMemory, Pins, Plan, Problem, Routes};
+use plan_types::{Cost, OutOfMemory, Pins, Plan, Problem, Routes};
 use route_sched::{plan_cost, used_count};
 use sol_text::{SolFault, SolFaultKind, Solution};
 use std::alloc::Global;
@@ -33,15 +34,15 @@ pub enum PlanExamination {
 /// Examines both texts as `examine` does. But if a solution only lacks its cost line, it may be a partial plan.
 pub fn examine_plan(
     alloc: Global,
-    kind: Kind,
+    format: Format,
     instance: &[u8],
     solution: &[u8],
 ) -> Result<PlanExamination, OutOfMemory>
-    ensures { IfOk result (IsPlanExamined kind instance.now solution.now) }
+    ensures { IfOk result (IsPlanExamined format instance.now solution.now) }
 {
-    match examine(alloc, kind, instance, solution)? {
+    match examine(alloc, format, instance, solution)? {
         Examination::BadSolution(fault) => {
-            partial_or_refused(alloc, kind, instance, solution, fault)
+            partial_or_refused(alloc, format, instance, solution, fault)
         }
         examined => Ok(PlanExamination::Whole(examined)),
     }
@@ -50,18 +51,18 @@ pub fn examine_plan(
 // Examines two texts whose solution has this fault: it may be a partial plan.
 fn partial_or_refused(
     alloc: Global,
-    kind: Kind,
+    format: Format,
     instance: &[u8],
     solution: &[u8],
     fault: SolFault,
 ) -> Result<PlanExamination, OutOfMemory>
-    requires { IsBadSolution kind instance.now solution.now fault }
-    ensures { IfOk result (IsPlanExamined kind instance.now solution.now) }
+    requires { IsBadSolution format instance.now solution.now fault }
+    ensures { IfOk result (IsPlanExamined format instance.now solution.now) }
 {
     if fault.kind != SolFaultKind::NoCost {
         return Ok(PlanExamination::Whole(Examination::BadSolution(fault)));
     }
-    let routes = examine_routes(alloc, kind, instance, solution)?;
+    let routes = examine_routes(alloc, format, instance, solution)?;
     match partial_of(alloc, routes)? {
         Some(partial) => Ok(PlanExamination::Partial(partial)),
         None => Ok(PlanExamination::Whole(Examination::BadSolution(fault))),

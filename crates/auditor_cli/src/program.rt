@@ -64,10 +64,10 @@ fn dispatch<F: ReadFiles, W: Write, E: Write>(
             routes_alone,
         } => audit_files(alloc, paths, routes_alone, files, output, errors),
         Invocation::Audits {
-            kind,
+            format,
             list,
             routes_alone,
-        } => audit_list(alloc, kind, list, routes_alone, files, output, errors),
+        } => audit_list(alloc, format, list, routes_alone, files, output, errors),
         Invocation::Explain {
             paths,
             routes_alone,

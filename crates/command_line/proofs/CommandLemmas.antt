@@ -92,8 +92,9 @@ use Rattle.clap.specs.Simple.{built, built_leaf, entered, label_of, names_of, ro
 use Rattle.clap.specs.Faults.{built_fault, check_fault, defaults_fault, entered_fault, level_fault, other_fault, settle_fault, step_fault, turn_fault, walk_fault}
 use Rattle.clap.specs.declared.error.kind.ErrorKind.TheVariants as kind
 use Rattle.clap.specs.declared.error.kind.ErrorKind.{ErrorKind}
-use Rattle.plan_types.specs.declared.requests.Kind.{Kind}
-use Rattle.plan_types.specs.declared.requests.Kind.TheVariants.{LiLim, Vrp}
+use Rattle.instance_read.specs.Formats.{format_named}
+use Rattle.instance_read.specs.declared.formats.Format.{Format}
+use Rattle.instance_read.specs.declared.formats.Layout.TheVariants.{LiLim, Solomon, Vrp}
 use Rattle.std.specs.Str.{bytes_eq}
 use Rattle.std.specs.Prelude.{if◌then◌else◌}
 use Rattle.clap.specs.Kinds.{or_else}
@@ -126,7 +127,6 @@ use Rattle.command_line.specs.Invocations.{
   parsed_audit,
   audit_from,
   audit_in,
-  kind_named,
   parsed_audits,
   audits_from,
   audits_in,
@@ -360,42 +360,52 @@ fault_first : (a b : Kinds) → IsFault a → IsFault (or_else a b)
 fault_first [] b h = absurd h
 fault_first (k ∷ ks) b h = h
 
--- the fault of an argument that must be one of two names, by the tests for them
-abbrev unless_named : Bool → Bool → Kinds
-unless_named true b = []
-unless_named false true = []
-unless_named false false = kind.InvalidValue ∷ []
+-- the fault of an argument that must be one of some names
+abbrev unless_named : Bool → Kinds
+unless_named true = []
+unless_named false = kind.InvalidValue ∷ []
 
-accepted_by : (a b : Bool) → or_else (if (a || (b || false)) then [] else kind.InvalidValue ∷ []) [] ≡ unless_named a b
-accepted_by true b = refl
-accepted_by false true = refl
-accepted_by false false = refl
+accepted_by : (a : Bool) → or_else (if a then [] else kind.InvalidValue ∷ []) [] ≡ unless_named a
+accepted_by true = refl
+accepted_by false = refl
 
-accepts_names : (names : Bor (List (Bor Text))) (k : Text) → IsKindNames names → list_any (λ name. bytes_eq name.now k) names.now ≡ (bytes_eq (codes "lilim") k || (bytes_eq (codes "vrp") k || false))
-accepts_names names k kinds = list_any-map (λ t. bytes_eq t k) (λ (n : Bor Text). n.now) names.now ∙ ap (list_any (λ t. bytes_eq t k)) kinds
+-- the format that an argument names, by the tests for the names
+abbrev format_by : Bool → Bool → Bool → Option Format
+format_by a b c = option_map (λ layout. record { layout = layout }) (if a then Some LiLim else if b then Some Solomon else if c then Some Vrp else None)
+
+-- an argument is one of the names if it names a format
+some_named : (a b c : Bool) → (a || (b || (c || false))) ≡ is_some (format_by a b c)
+some_named true b c = refl
+some_named false true c = refl
+some_named false false true = refl
+some_named false false false = refl
+
+accepts_names : (names : Bor (List (Bor Text))) (k : Text) → IsKindNames names → list_any (λ name. bytes_eq name.now k) names.now ≡ is_some (format_named k)
+accepts_names names k kinds =
+    list_any-map (λ t. bytes_eq t k) (λ (n : Bor Text). n.now) names.now
+    ∙ ap (list_any (λ t. bytes_eq t k)) kinds
+    ∙ some_named (bytes_eq (codes "lilim") k) (bytes_eq (codes "solomon") k) (bytes_eq (codes "vrp") k)
 
 -- the fault of an argument that must be a kind
 abbrev fault_of_kind : Text → Kinds
-fault_of_kind k = unless_named (bytes_eq (codes "lilim") k) (bytes_eq (codes "vrp") k)
+fault_of_kind k = unless_named (is_some (format_named k))
 
 known_fault : (names : Bor (List (Bor Text))) (k : Text) → IsKindNames names → or_else (if list_any (λ name. bytes_eq name.now k) names.now then [] else kind.InvalidValue ∷ []) [] ≡ fault_of_kind k
-known_fault names k kinds = ap (λ b. or_else (if b then [] else kind.InvalidValue ∷ []) []) (accepts_names names k kinds) ∙ accepted_by (bytes_eq (codes "lilim") k) (bytes_eq (codes "vrp") k)
+known_fault names k kinds = ap (λ b. or_else (if b then [] else kind.InvalidValue ∷ []) []) (accepts_names names k kinds) ∙ accepted_by (is_some (format_named k))
 
-mistakes_by : (a b : Bool) → AreMistakes (unless_named a b)
-mistakes_by true b = tt
-mistakes_by false true = tt
-mistakes_by false false = (refl, tt)
+mistakes_by : (a : Bool) → AreMistakes (unless_named a)
+mistakes_by true = tt
+mistakes_by false = (refl, tt)
 
 kind_mistakes : (fault : Kinds) (k : Text) → fault ≡ fault_of_kind k → AreMistakes fault
-kind_mistakes fault k is = subst AreMistakes (sym is) (mistakes_by (bytes_eq (codes "lilim") k) (bytes_eq (codes "vrp") k))
+kind_mistakes fault k is = subst AreMistakes (sym is) (mistakes_by (is_some (format_named k)))
 
 -- if there are as many arguments as needed, only the kind can be wrong
-judged_kind : (Help : Type 0) (a b : Bool) (faults : Kinds) (asked reported : Option InvocationValue) → faults ≡ unless_named a b
-    → ((if a then Some LiLim else (if b then Some Vrp else None)) ≡ None → asked ≡ None)
+judged_kind : (Help : Type 0) (o : Option Format) (faults : Kinds) (asked reported : Option InvocationValue) → faults ≡ unless_named (is_some o)
+    → (o ≡ None → asked ≡ None)
     → asked ≡ reported → IsJudged Help faults asked reported
-judged_kind Help true b faults asked reported f e same = inl (f, same)
-judged_kind Help false true faults asked reported f e same = inl (f, same)
-judged_kind Help false false faults asked reported f e same = inr (inl (subst IsFault (sym f) (refl, tt)), e refl)
+judged_kind Help (Some named) faults asked reported f e same = inl (f, same)
+judged_kind Help None faults asked reported f e same = inr (inl (subst IsFault (sym f) (refl, tt)), e refl)
 
 judged_leaf : (Help : Type 0) (s : Shape) → take_one_each s.rules ≡ true → (words : List Text) → ArePositional words → (asked : Option InvocationValue) (tell : List Row → Option InvocationValue)
     → IsJudged Help (leaf_fault s words) asked (tell (leaf_rows s words)) → IsJudged Help (level_fault s [] nothing_held words false []) asked (tell (rows_at s words).1)
@@ -429,20 +439,20 @@ abbrev load_shape : Bor (List (Bor Text)) → Shape
 load_shape names = built_leaf (load_app names).top
 
 -- without a kind the arguments have no meaning
-no_kind_no_paths : (does : PathsValue → Bool → InvocationValue) (o : Option Kind) (i s : Text) (last : Option Text) → o ≡ None
-    → audit_from does (option_map (λ k. record { kind = k; instance = i; solution = s }) o) last ≡ None
-no_kind_no_paths does o i s last none = ap (λ o. audit_from does (option_map (λ k. record { kind = k; instance = i; solution = s }) o) last) none
+no_kind_no_paths : (does : PathsValue → Bool → InvocationValue) (o : Option Format) (i s : Text) (last : Option Text) → o ≡ None
+    → audit_from does (option_map (λ k. record { format = k; instance = i; solution = s }) o) last ≡ None
+no_kind_no_paths does o i s last none = ap (λ o. audit_from does (option_map (λ k. record { format = k; instance = i; solution = s }) o) last) none
 
-no_kind_no_list : (o : Option Kind) (l : Text) (last : Option Text) → o ≡ None → audits_from o l last ≡ None
+no_kind_no_list : (o : Option Format) (l : Text) (last : Option Text) → o ≡ None → audits_from o l last ≡ None
 no_kind_no_list o l last none = ap (λ o. audits_from o l last) none
 
-no_kind_no_task : (o : Option Kind) (i : Text) (n s : Option ℕ) (d : Option (Option ℕ)) → o ≡ None → option_map solve (solve_from o i n s d) ≡ None
+no_kind_no_task : (o : Option Format) (i : Text) (n s : Option ℕ) (d : Option (Option ℕ)) → o ≡ None → option_map solve (solve_from o i n s d) ≡ None
 no_kind_no_task o i n s d none = ap (λ o. option_map solve (solve_from o i n s d)) none
 
-no_kind_no_tasks : (o : Option Kind) (l : Text) (n s : Option ℕ) → o ≡ None → option_map solves (solves_from o l n s) ≡ None
+no_kind_no_tasks : (o : Option Format) (l : Text) (n s : Option ℕ) → o ≡ None → option_map solves (solves_from o l n s) ≡ None
 no_kind_no_tasks o l n s none = ap (λ o. option_map solves (solves_from o l n s)) none
 
-no_kind_no_load : (w : Text) (o : Option Kind) (i : Text) (s : Option ℕ) → o ≡ None → option_map load (load_from w o i s) ≡ None
+no_kind_no_load : (w : Text) (o : Option Format) (i : Text) (s : Option ℕ) → o ≡ None → option_map load (load_from w o i s) ≡ None
 no_kind_no_load w o i s none = ap (λ o. option_map load (load_from w o i s)) none
 
 module _ (Help : Type 0) (names : Bor (List (Bor Text))) (kinds : IsKindNames names) where
@@ -456,9 +466,9 @@ module _ (Help : Type 0) (names : Bor (List (Bor Text))) (kinds : IsKindNames na
   too_many k end reported =
       inr (inl (fault_first _ end (fault_then (kind_fault names k) (kind.UnknownArgument ∷ []) (kind_mistakes _ k (known_fault names k kinds)) (refl, tt))), refl)
 
-  enough : (k : Text) (asked reported : Option InvocationValue) → (kind_named k ≡ None → asked ≡ None) → asked ≡ reported → IsJudged Help (or_else (or_else (kind_fault names k) []) []) asked reported
+  enough : (k : Text) (asked reported : Option InvocationValue) → (format_named k ≡ None → asked ≡ None) → asked ≡ reported → IsJudged Help (or_else (or_else (kind_fault names k) []) []) asked reported
   enough k asked reported none same =
-      judged_kind Help (bytes_eq (codes "lilim") k) (bytes_eq (codes "vrp") k) _ asked reported (or_else-nil _ ∙ or_else-nil _ ∙ known_fault names k kinds) none same
+      judged_kind Help (format_named k) _ asked reported (or_else-nil _ ∙ or_else-nil _ ∙ known_fault names k kinds) none same
 
   judged_paths : (does : PathsValue → Bool → InvocationValue) (name : Text) (words : List Text)
       → IsJudged Help (leaf_fault (paths_shape name names) words) (parsed_audit does words) (audit_in does (leaf_rows (paths_shape name names) words))
@@ -466,16 +476,16 @@ module _ (Help : Type 0) (names : Bor (List (Bor Text))) (kinds : IsKindNames na
   judged_paths does name [] = inr (inl (refl, tt), refl)
   judged_paths does name (k ∷ []) = too_few k _
   judged_paths does name (k ∷ i ∷ []) = still_too_few k _
-  judged_paths does name (k ∷ i ∷ s ∷ []) = enough k _ _ (no_kind_no_paths does (kind_named k) i s None) refl
-  judged_paths does name (k ∷ i ∷ s ∷ r ∷ []) = enough k _ _ (no_kind_no_paths does (kind_named k) i s (Some r)) refl
+  judged_paths does name (k ∷ i ∷ s ∷ []) = enough k _ _ (no_kind_no_paths does (format_named k) i s None) refl
+  judged_paths does name (k ∷ i ∷ s ∷ r ∷ []) = enough k _ _ (no_kind_no_paths does (format_named k) i s (Some r)) refl
   judged_paths does name (k ∷ i ∷ s ∷ r ∷ x ∷ rest) = too_many k _ _
 
   judged_list : (words : List Text) → IsJudged Help (leaf_fault (audits_shape names) words) (parsed_audits words) (audits_in (leaf_rows (audits_shape names) words))
   unfolding clap_on_literals
   judged_list [] = inr (inl (refl, tt), refl)
   judged_list (k ∷ []) = too_few k _
-  judged_list (k ∷ l ∷ []) = enough k _ _ (no_kind_no_list (kind_named k) l None) refl
-  judged_list (k ∷ l ∷ r ∷ []) = enough k _ _ (no_kind_no_list (kind_named k) l (Some r)) refl
+  judged_list (k ∷ l ∷ []) = enough k _ _ (no_kind_no_list (format_named k) l None) refl
+  judged_list (k ∷ l ∷ r ∷ []) = enough k _ _ (no_kind_no_list (format_named k) l (Some r)) refl
   judged_list (k ∷ l ∷ r ∷ x ∷ rest) = too_many k _ _
 
   judged_task : (words : List Text)
@@ -484,9 +494,9 @@ module _ (Help : Type 0) (names : Bor (List (Bor Text))) (kinds : IsKindNames na
   judged_task [] = inr (inl (refl, tt), refl)
   judged_task (k ∷ []) = too_few k _
   judged_task (k ∷ i ∷ []) = still_too_few k _
-  judged_task (k ∷ i ∷ n ∷ []) = enough k _ _ (no_kind_no_task (kind_named k) i (steps_named n) (Some 0) (Some None)) refl
-  judged_task (k ∷ i ∷ n ∷ s ∷ []) = enough k _ _ (no_kind_no_task (kind_named k) i (steps_named n) (seed_named s) (Some None)) refl
-  judged_task (k ∷ i ∷ n ∷ s ∷ d ∷ []) = enough k _ _ (no_kind_no_task (kind_named k) i (steps_named n) (seed_named s) (deviation_or_none (Some d))) refl
+  judged_task (k ∷ i ∷ n ∷ []) = enough k _ _ (no_kind_no_task (format_named k) i (steps_named n) (Some 0) (Some None)) refl
+  judged_task (k ∷ i ∷ n ∷ s ∷ []) = enough k _ _ (no_kind_no_task (format_named k) i (steps_named n) (seed_named s) (Some None)) refl
+  judged_task (k ∷ i ∷ n ∷ s ∷ d ∷ []) = enough k _ _ (no_kind_no_task (format_named k) i (steps_named n) (seed_named s) (deviation_or_none (Some d))) refl
   judged_task (k ∷ i ∷ n ∷ s ∷ d ∷ x ∷ rest) = too_many k _ _
 
   judged_tasks : (words : List Text)
@@ -495,8 +505,8 @@ module _ (Help : Type 0) (names : Bor (List (Bor Text))) (kinds : IsKindNames na
   judged_tasks [] = inr (inl (refl, tt), refl)
   judged_tasks (k ∷ []) = too_few k _
   judged_tasks (k ∷ l ∷ []) = still_too_few k _
-  judged_tasks (k ∷ l ∷ n ∷ []) = enough k _ _ (no_kind_no_tasks (kind_named k) l (steps_named n) (Some 0)) refl
-  judged_tasks (k ∷ l ∷ n ∷ s ∷ []) = enough k _ _ (no_kind_no_tasks (kind_named k) l (steps_named n) (seed_named s)) refl
+  judged_tasks (k ∷ l ∷ n ∷ []) = enough k _ _ (no_kind_no_tasks (format_named k) l (steps_named n) (Some 0)) refl
+  judged_tasks (k ∷ l ∷ n ∷ s ∷ []) = enough k _ _ (no_kind_no_tasks (format_named k) l (steps_named n) (seed_named s)) refl
   judged_tasks (k ∷ l ∷ n ∷ s ∷ x ∷ rest) = too_many k _ _
 
   judged_load : (words : List Text)
@@ -505,8 +515,8 @@ module _ (Help : Type 0) (names : Bor (List (Bor Text))) (kinds : IsKindNames na
   judged_load [] = inr (inl (refl, tt), refl)
   judged_load (w ∷ []) = inr (inl (refl, tt), refl)
   judged_load (w ∷ k ∷ []) = too_few k _
-  judged_load (w ∷ k ∷ i ∷ []) = enough k _ _ (no_kind_no_load w (kind_named k) i (Some 0)) refl
-  judged_load (w ∷ k ∷ i ∷ s ∷ []) = enough k _ _ (no_kind_no_load w (kind_named k) i (seed_named s)) refl
+  judged_load (w ∷ k ∷ i ∷ []) = enough k _ _ (no_kind_no_load w (format_named k) i (Some 0)) refl
+  judged_load (w ∷ k ∷ i ∷ s ∷ []) = enough k _ _ (no_kind_no_load w (format_named k) i (seed_named s)) refl
   judged_load (w ∷ k ∷ i ∷ s ∷ x ∷ rest) = too_many k _ _
 
 -- ---- the other commands

@@ -109,7 +109,7 @@ planner_app names modes =
     with_store_apps names modes (with_search_apps names (with_solution_apps names (versioned_app (codes "planner"))))
 
 abbrev pub kind_words : List Text
-kind_words = codes "lilim" ∷ codes "vrp" ∷ []
+kind_words = codes "lilim" ∷ codes "solomon" ∷ codes "vrp" ∷ []
 
 abbrev pub IsKindNames : Bor (List (Bor Text)) → Type 0
 IsKindNames names = map (λ name. name.now) names.now ≡ kind_words

@@ -35,8 +35,8 @@ use Rattle.clap.specs.Words.{Row, Text, first_of, kind_of}
 use Rattle.clap.specs.declared.error.Error.{Error}
 use Rattle.clap.specs.declared.error.kind.ErrorKind.TheVariants.{DisplayHelp, DisplayVersion, OutOfMemory}
 use Rattle.clap.specs.declared.error.kind.ErrorKind.{ErrorKind}
-use Rattle.plan_types.specs.declared.requests.Kind.{Kind}
-use Rattle.plan_types.specs.declared.requests.Kind.TheVariants.{LiLim, Vrp}
+use Rattle.instance_read.specs.Formats.{format_named}
+use Rattle.instance_read.specs.declared.formats.Format.{Format as InstanceFormat}
 use Rattle.text_lines.specs.Numbers.{below, digits_of, integer_of}
 use Rattle.plan_types.specs.Limits.{max_requested_steps, max_deviation}
 use Rattle.command_line.specs.declared.arguments.Paths.{Paths}
@@ -64,15 +64,15 @@ use Rattle.command_line.specs.declared.arguments.LoadArgs.{LoadArgs}
 use Rattle.command_line.specs.declared.arguments.SolveArgs.{SolveArgs}
 use Rattle.command_line.specs.declared.arguments.SolvesArgs.{SolvesArgs}
 
--- The paths of two files, and the kind of their instance.
+-- The paths of two files, and the format of their instance.
 pub record PathsValue : Type 0 where
-  pub kind : Kind
+  pub format : InstanceFormat
   pub instance : Text
   pub solution : Text
 
 -- The file of an instance, and the arguments for solving it.
 pub record SolveArgsValue : Type 0 where
-  pub kind : Kind
+  pub format : InstanceFormat
   pub instance : Text
   pub steps : ℕ
   pub seed : ℕ
@@ -80,7 +80,7 @@ pub record SolveArgsValue : Type 0 where
 
 -- The file of a list of instances, and the arguments for solving each of them.
 pub record SolvesArgsValue : Type 0 where
-  pub kind : Kind
+  pub format : InstanceFormat
   pub list : Text
   pub steps : ℕ
   pub seed : ℕ
@@ -88,7 +88,7 @@ pub record SolvesArgsValue : Type 0 where
 -- A store's file, an instance's file, and the seed of the store's searches.
 pub record LoadArgsValue : Type 0 where
   pub store : Text
-  pub kind : Kind
+  pub format : InstanceFormat
   pub instance : Text
   pub seed : ℕ
 
@@ -96,7 +96,7 @@ pub record LoadArgsValue : Type 0 where
 pub data InvocationValue : Type 0 where
   built_in : InvocationValue
   audit : PathsValue → Bool → InvocationValue
-  audits : Kind → Text → Bool → InvocationValue
+  audits : InstanceFormat → Text → Bool → InvocationValue
   explain : PathsValue → Bool → InvocationValue
   draw : PathsValue → Option ℕ → InvocationValue
   draw_store : Text → Option ℕ → InvocationValue
@@ -113,16 +113,16 @@ pub data InvocationValue : Type 0 where
   store_timetable : Text → Bool → InvocationValue
 
 abbrev pub paths_of : Paths → PathsValue
-paths_of paths = record { kind = paths.kind; instance = paths.instance.now; solution = paths.solution.now }
+paths_of paths = record { format = paths.format; instance = paths.instance.now; solution = paths.solution.now }
 
 abbrev pub task_of : SolveArgs → SolveArgsValue
-task_of task = record { kind = task.kind; instance = task.instance.now; steps = task.steps; seed = task.seed; deviation = task.deviation }
+task_of task = record { format = task.format; instance = task.instance.now; steps = task.steps; seed = task.seed; deviation = task.deviation }
 
 abbrev pub tasks_of : SolvesArgs → SolvesArgsValue
-tasks_of tasks = record { kind = tasks.kind; list = tasks.list.now; steps = tasks.steps; seed = tasks.seed }
+tasks_of tasks = record { format = tasks.format; list = tasks.list.now; steps = tasks.steps; seed = tasks.seed }
 
 abbrev pub load_of : LoadArgs → LoadArgsValue
-load_of loading = record { store = loading.store.now; kind = loading.kind; instance = loading.instance.now; seed = loading.seed }
+load_of loading = record { store = loading.store.now; format = loading.format; instance = loading.instance.now; seed = loading.seed }
 
 abbrev pub invocation_value : Invocation → InvocationValue
 invocation_value BuiltIn = built_in
@@ -142,10 +142,6 @@ invocation_value (Check store) = check store.now
 invocation_value (Upgrade old new) = upgrade old.now new.now
 invocation_value (Timetable paths is_tabbed) = timetable (paths_of paths) is_tabbed
 invocation_value (StoreTimetable store is_tabbed) = store_timetable store.now is_tabbed
-
--- The kind of instance that an argument names.
-abbrev pub kind_named : Text → Option Kind
-kind_named word = if bytes_eq (codes "lilim") word then Some LiLim else (if bytes_eq (codes "vrp") word then Some Vrp else None)
 
 -- A number of steps, in digits only.
 abbrev pub steps_named : Text → Option ℕ
@@ -171,7 +167,7 @@ abbrev pub ◌>>=◌ : {A B : Type 0} → Option A → (A → Option B) → Opti
 o >>= f = option_and_then f o
 
 abbrev pub paths_from : Text → Text → Text → Option PathsValue
-paths_from kind instance solution = option_map (λ k. record { kind = k; instance = instance; solution = solution }) (kind_named kind)
+paths_from kind instance solution = option_map (λ k. record { format = k; instance = instance; solution = solution }) (format_named kind)
 
 -- Whether the last argument has this name. No other one is allowed.
 abbrev pub flag_named : Text → Option Text → Option Bool
@@ -190,7 +186,7 @@ parsed_audit does (kind ∷ instance ∷ solution ∷ []) = audit_from does (pat
 parsed_audit does (kind ∷ instance ∷ solution ∷ last ∷ []) = audit_from does (paths_from kind instance solution) (Some last)
 parsed_audit does _ = None
 
-abbrev pub audits_from : Option Kind → Text → Option Text → Option InvocationValue
+abbrev pub audits_from : Option InstanceFormat → Text → Option Text → Option InvocationValue
 audits_from kind list last = do
   kind ← kind
   routes_alone ← flag_named (codes "routes") last
@@ -198,8 +194,8 @@ audits_from kind list last = do
 
 -- `KIND LIST [routes]`.
 abbrev pub parsed_audits : List Text → Option InvocationValue
-parsed_audits (kind ∷ list ∷ []) = audits_from (kind_named kind) list None
-parsed_audits (kind ∷ list ∷ last ∷ []) = audits_from (kind_named kind) list (Some last)
+parsed_audits (kind ∷ list ∷ []) = audits_from (format_named kind) list None
+parsed_audits (kind ∷ list ∷ last ∷ []) = audits_from (format_named kind) list (Some last)
 parsed_audits _ = None
 
 -- A deviation, in digits only, or `None` if this argument is missing.
@@ -207,33 +203,33 @@ abbrev pub deviation_or_none : Option Text → Option (Option ℕ)
 deviation_or_none None = Some None
 deviation_or_none (Some word) = option_map (λ d. Some d) (below (max_deviation + 1) (digits_of word))
 
-abbrev pub solve_from : Option Kind → Text → Option ℕ → Option ℕ → Option (Option ℕ) → Option SolveArgsValue
+abbrev pub solve_from : Option InstanceFormat → Text → Option ℕ → Option ℕ → Option (Option ℕ) → Option SolveArgsValue
 solve_from kind instance steps seed deviation = do
   kind ← kind
   steps ← steps
   seed ← seed
   deviation ← deviation
-  Some (record { kind = kind; instance = instance; steps = steps; seed = seed; deviation = deviation })
+  Some (record { format = kind; instance = instance; steps = steps; seed = seed; deviation = deviation })
 
 -- `KIND INSTANCE STEPS [SEED [DEVIATION]]`.
 abbrev pub parsed_solve : List Text → Option SolveArgsValue
-parsed_solve (kind ∷ instance ∷ steps ∷ []) = solve_from (kind_named kind) instance (steps_named steps) (Some 0) (Some None)
-parsed_solve (kind ∷ instance ∷ steps ∷ seed ∷ []) = solve_from (kind_named kind) instance (steps_named steps) (seed_named seed) (Some None)
+parsed_solve (kind ∷ instance ∷ steps ∷ []) = solve_from (format_named kind) instance (steps_named steps) (Some 0) (Some None)
+parsed_solve (kind ∷ instance ∷ steps ∷ seed ∷ []) = solve_from (format_named kind) instance (steps_named steps) (seed_named seed) (Some None)
 parsed_solve (kind ∷ instance ∷ steps ∷ seed ∷ deviation ∷ []) =
-    solve_from (kind_named kind) instance (steps_named steps) (seed_named seed) (deviation_or_none (Some deviation))
+    solve_from (format_named kind) instance (steps_named steps) (seed_named seed) (deviation_or_none (Some deviation))
 parsed_solve _ = None
 
-abbrev pub solves_from : Option Kind → Text → Option ℕ → Option ℕ → Option SolvesArgsValue
+abbrev pub solves_from : Option InstanceFormat → Text → Option ℕ → Option ℕ → Option SolvesArgsValue
 solves_from kind list steps seed = do
   kind ← kind
   steps ← steps
   seed ← seed
-  Some (record { kind = kind; list = list; steps = steps; seed = seed })
+  Some (record { format = kind; list = list; steps = steps; seed = seed })
 
 -- `KIND LIST STEPS [SEED]`.
 abbrev pub parsed_solves : List Text → Option SolvesArgsValue
-parsed_solves (kind ∷ list ∷ steps ∷ []) = solves_from (kind_named kind) list (steps_named steps) (Some 0)
-parsed_solves (kind ∷ list ∷ steps ∷ seed ∷ []) = solves_from (kind_named kind) list (steps_named steps) (seed_named seed)
+parsed_solves (kind ∷ list ∷ steps ∷ []) = solves_from (format_named kind) list (steps_named steps) (Some 0)
+parsed_solves (kind ∷ list ∷ steps ∷ seed ∷ []) = solves_from (format_named kind) list (steps_named steps) (seed_named seed)
 parsed_solves _ = None
 
 -- `STORE`.
@@ -241,11 +237,11 @@ abbrev pub parsed_store : List Text → Option Text
 parsed_store (store ∷ []) = Some store
 parsed_store _ = None
 
-abbrev pub load_from : Text → Option Kind → Text → Option ℕ → Option LoadArgsValue
+abbrev pub load_from : Text → Option InstanceFormat → Text → Option ℕ → Option LoadArgsValue
 load_from store kind instance seed = do
   kind ← kind
   seed ← seed
-  Some (record { store = store; kind = kind; instance = instance; seed = seed })
+  Some (record { store = store; format = kind; instance = instance; seed = seed })
 
 abbrev pub run_from : Text → Option Text → Option InvocationValue
 run_from store mode = option_map (run store) (flag_named (codes "strict") mode)
@@ -258,8 +254,8 @@ parsed_run _ = None
 
 -- `STORE KIND INSTANCE [SEED]`.
 abbrev pub parsed_load : List Text → Option LoadArgsValue
-parsed_load (store ∷ kind ∷ instance ∷ []) = load_from store (kind_named kind) instance (Some 0)
-parsed_load (store ∷ kind ∷ instance ∷ seed ∷ []) = load_from store (kind_named kind) instance (seed_named seed)
+parsed_load (store ∷ kind ∷ instance ∷ []) = load_from store (format_named kind) instance (Some 0)
+parsed_load (store ∷ kind ∷ instance ∷ seed ∷ []) = load_from store (format_named kind) instance (seed_named seed)
 parsed_load _ = None
 
 -- `STORE SOLUTION`.
@@ -352,7 +348,7 @@ audit_in does rows = audit_from does (paths_in rows) (first_of (codes "routes") 
 -- The values of `KIND LIST [routes]`.
 abbrev pub audits_in : List Row → Option InvocationValue
 audits_in rows = do
-  kind ← first_of (codes "KIND") rows >>= kind_named
+  kind ← first_of (codes "KIND") rows >>= format_named
   list ← first_of (codes "LIST") rows
   routes_alone ← flag_named (codes "routes") (first_of (codes "routes") rows)
   Some (audits kind list routes_alone)
@@ -363,21 +359,21 @@ seed_in rows = seed_or_none (first_of (codes "SEED") rows)
 -- The values of `KIND INSTANCE STEPS [SEED [DEVIATION]]`.
 abbrev pub solve_in : List Row → Option SolveArgsValue
 solve_in rows = do
-  kind ← first_of (codes "KIND") rows >>= kind_named
+  kind ← first_of (codes "KIND") rows >>= format_named
   instance ← first_of (codes "INSTANCE") rows
   steps ← first_of (codes "STEPS") rows >>= steps_named
   seed ← seed_in rows
   deviation ← deviation_or_none (first_of (codes "DEVIATION") rows)
-  Some (record { kind = kind; instance = instance; steps = steps; seed = seed; deviation = deviation })
+  Some (record { format = kind; instance = instance; steps = steps; seed = seed; deviation = deviation })
 
 -- The values of `KIND LIST STEPS [SEED]`.
 abbrev pub solves_in : List Row → Option SolvesArgsValue
 solves_in rows = do
-  kind ← first_of (codes "KIND") rows >>= kind_named
+  kind ← first_of (codes "KIND") rows >>= format_named
   list ← first_of (codes "LIST") rows
   steps ← first_of (codes "STEPS") rows >>= steps_named
   seed ← seed_in rows
-  Some (record { kind = kind; list = list; steps = steps; seed = seed })
+  Some (record { format = kind; list = list; steps = steps; seed = seed })
 
 -- The value of `STORE`.
 abbrev pub store_in : List Row → Option Text
@@ -391,10 +387,10 @@ run_in rows = store_in rows >>= (λ store. run_from store (first_of (codes "stri
 abbrev pub load_in : List Row → Option LoadArgsValue
 load_in rows = do
   store ← store_in rows
-  kind ← first_of (codes "KIND") rows >>= kind_named
+  kind ← first_of (codes "KIND") rows >>= format_named
   instance ← first_of (codes "INSTANCE") rows
   seed ← seed_in rows
-  Some (record { store = store; kind = kind; instance = instance; seed = seed })
+  Some (record { store = store; format = kind; instance = instance; seed = seed })
 
 -- The values of `STORE SOLUTION`.
 abbrev pub adopt_in : List Row → Option InvocationValue

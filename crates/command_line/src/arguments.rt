@@ -10,14 +10,14 @@ ghost use Rattle.command_line.specs.Invocations.{ArePositional, ReadsMatches, Re
 use crate::commands::{bad_arguments, planner_command};
 use crate::matches::parse_matches;
 use clap::{ArgMatches, Error};
-use plan_types::Kind;
+use instance_read::Format;
 use std::alloc::Global;
 use std::convert::AsStr;
 
 /// An instance and a solution, given by the paths of their files.
 #[derive(Clone, Copy, Debug)]
 pub struct Paths<'a> {
-    pub kind: Kind,
+    pub format: Format,
     pub instance: &'a str,
     pub solution: &'a str,
 }
@@ -25,7 +25,7 @@ pub struct Paths<'a> {
 /// An instance, given by the path of its file, and the steps that improve the plan built for it.
 #[derive(Clone, Copy, Debug)]
 pub struct SolveArgs<'a> {
-    pub kind: Kind,
+    pub format: Format,
     pub instance: &'a str,
     /// The number of steps, 0..=`MAX_REQUESTED_STEPS`.
     pub steps: u32,
@@ -39,7 +39,7 @@ pub struct SolveArgs<'a> {
 /// instance.
 #[derive(Clone, Copy, Debug)]
 pub struct SolvesArgs<'a> {
-    pub kind: Kind,
+    pub format: Format,
     pub list: &'a str,
     /// The number of steps for each instance, 0..=`MAX_REQUESTED_STEPS`.
     pub steps: u32,
@@ -50,7 +50,7 @@ pub struct SolvesArgs<'a> {
 #[derive(Clone, Copy, Debug)]
 pub struct LoadArgs<'a> {
     pub store: &'a str,
-    pub kind: Kind,
+    pub format: Format,
     pub instance: &'a str,
     /// The seed of the random numbers of the store's searches.
     pub seed: u64,
@@ -69,7 +69,7 @@ pub enum Invocation<'a> {
     },
     /// `audits KIND LIST [routes]`: the audits of the pairs of files that the lines of this file name.
     Audits {
-        kind: Kind,
+        format: Format,
         list: &'a str,
         routes_alone: bool,
     },

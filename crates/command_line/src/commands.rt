@@ -17,9 +17,9 @@ use plan_types::OutOfMemory;
 use std::alloc::Global;
 
 const BAD_AUDIT: &str =
-    "the arguments are KIND INSTANCE SOLUTION [routes], and KIND is lilim or vrp";
+    "the arguments are KIND INSTANCE SOLUTION [routes], and KIND is lilim, solomon or vrp";
 
-const BAD_AUDITS: &str = "the arguments are KIND LIST [routes], and KIND is lilim or vrp";
+const BAD_AUDITS: &str = "the arguments are KIND LIST [routes], and KIND is lilim, solomon or vrp";
 
 const BAD_STEPS: &str =
     "STEPS and DEVIATION are 0 to 1000000000 and SEED is 0 to 18446744073709551615, with digits only";
@@ -30,12 +30,12 @@ const BAD_TASKS: &str =
     "STEPS is 0 to 1000000000 and SEED is 0 to 18446744073709551615, with digits only";
 
 const BAD_DRAWING: &str =
-    "the arguments are STORE [ROUTE] or KIND INSTANCE SOLUTION [ROUTE], KIND is lilim or vrp, and ROUTE is a number with digits only";
+    "the arguments are STORE [ROUTE] or KIND INSTANCE SOLUTION [ROUTE], KIND is lilim, solomon or vrp, and ROUTE is a number with digits only";
 
 const BAD_TIMETABLE: &str =
-    "the arguments are STORE [tabs] or KIND INSTANCE SOLUTION [tabs], and KIND is lilim or vrp";
+    "the arguments are STORE [tabs] or KIND INSTANCE SOLUTION [tabs], and KIND is lilim, solomon or vrp";
 
-static KINDS: [&str; 2] = ["lilim", "vrp"];
+static KINDS: [&str; 3] = ["lilim", "solomon", "vrp"];
 
 static MODES: [&str; 1] = ["strict"];
 

@@ -4,9 +4,9 @@
 pub(crate) const VERSION: &str = "0.1.0";
 
 pub(crate) const ABOUT: &str =
-    "Plans vehicle routes: pickup and delivery with time windows (PDPTW) and capacitated routing (CVRP). `solve` solves an \
-    instance. `load` and `run` keep the plan in a store, a file that is recovered after a crash. `audit` checks any \
-    solution. Without arguments it audits a built-in example.";
+    "Plans vehicle routes: pickup and delivery with time windows (PDPTW), routing with time windows (VRPTW) and capacitated \
+    routing (CVRP). `solve` solves an instance. `load` and `run` keep the plan in a store, a file that is recovered after \
+    a crash. `audit` checks any solution. Without arguments it audits a built-in example.";
 
 pub(crate) const STATUSES: &str =
     "Answers go to standard output. The exit status says how the program ended:\n  \
@@ -96,16 +96,17 @@ pub(crate) const ADOPT_ANSWERS: &str =
 pub(crate) const INSTANCE_ABOUT: &str = "Prints the instance that a store holds";
 
 pub(crate) const INSTANCE_ANSWERS: &str =
-    "It prints the instance in the format that was loaded, with the requests that were added and without those that were\n\
-    withdrawn, so that other programs can solve it and audit its solutions (status 0). It has neither the plan nor its pins.\n\
+    "It prints the instance, with the requests that were added and without those that were withdrawn, so that other programs\n\
+    can solve it and audit its solutions (status 0). It has neither the plan nor its pins. Standard error names the KIND.\n\
     If that fails, it prints one line:\n  \
     no NoInstance     nothing is loaded into the store (status 2)\n  \
     no NoFormat       the format can't express the requests (status 2)\n  \
     store NAME        why the store was not opened, as for `run` (status 2, 3 or 4)\n  \
     cannot read PATH  the file can't be opened for reading (status 3)\n  \
     out of memory     (status 4)\n\n\
-    The lilim format can't express requests with one stop. The vrp format can't express pairs, time windows, service times,\n\
-    numbers that do not run from 1 on without gaps, or an instance without requests.";
+    An instance with time windows is printed as lilim if its requests are pairs, and as solomon if each has one stop. If it\n\
+    has both, no format can express it. The vrp format can't express pairs, time windows, service times, numbers that do\n\
+    not run from 1 on without gaps, or an instance without requests.";
 
 pub(crate) const CHECK_ABOUT: &str = "Checks whether a store is consistent";
 
@@ -191,7 +192,7 @@ pub(crate) const DRAW_ABOUT: &str = "Draws a solution, or the plan of a store, a
 
 pub(crate) const DRAW_ANSWERS: &str =
     "The arguments are STORE [ROUTE] or KIND INSTANCE SOLUTION [ROUTE]. It prints a picture of the depot, the stops, and\n\
-    each route with its numbers; for a lilim instance also the day of each vehicle. With ROUTE it draws only that route,\n\
+    each route with its numbers; with time windows also the day of each vehicle. With ROUTE it draws only that route,\n\
     larger. Routes count from 1; for a store, ROUTE is a vehicle, at most the last one that is used. A plan that breaks\n\
     a rule is drawn too, with a mark at the violation. So is a plan that leaves requests out, which `solve` prints\n\
     without a cost line; for a solution, standard error names these requests (status 0).\n\

@@ -2,11 +2,12 @@
 ghost use Rattle.std.specs.Prelude.{◌≡◌, option_and_then, option_map};
 ghost use Rattle.clap.specs.Words.{first_of, found_of, rows_of, subcommand_rows_of};
 ghost use Rattle.text_lines.specs.Numbers.{integer_of};
-ghost use Rattle.command_line.specs.Invocations.{adopt_in, as_u64, invocation_value, audit, explain, audit_in, paths_from, paths_in, paths_of, run_in, kind_named, audits_in, load_in, load_of, deviation_or_none, draw_in, flag_named, route_or_none, seed_in, seed_named, steps_named, store_draw_from, store_timetable_from, solve_in, task_of, solves_in, tasks_of, timetable_in, matched_command, matched_other_command, matched_invocation, matched_store_command, upgrade_in};
+ghost use Rattle.instance_read.specs.Formats.{format_named};
+ghost use Rattle.command_line.specs.Invocations.{adopt_in, as_u64, invocation_value, audit, explain, audit_in, paths_from, paths_in, paths_of, run_in, audits_in, load_in, load_of, deviation_or_none, draw_in, flag_named, route_or_none, seed_in, seed_named, steps_named, store_draw_from, store_timetable_from, solve_in, task_of, solves_in, tasks_of, timetable_in, matched_command, matched_other_command, matched_invocation, matched_store_command, upgrade_in};
 
 use crate::arguments::{Invocation, LoadArgs, Paths, SolveArgs, SolvesArgs};
 use clap::ArgMatches;
-use plan_types::Kind;
+use instance_read::Format;
 use plan_types::limits::{MAX_DEVIATION, MAX_REQUESTED_STEPS};
 use text_lines::{Number, digits_to_u32};
 
@@ -210,13 +211,13 @@ fn parse_paths<'a>(matches: &ArgMatches<'a>) -> Option<Paths<'a>>
     paths_named(kind, instance, solution)
 }
 
-// Returns the two paths with their kind of instance, or `None` if the first argument is not a kind.
+// Returns the two paths with the format of their instance, or `None` if the first argument is not a kind.
 fn paths_named<'a>(kind: &str, instance: &'a str, solution: &'a str) -> Option<Paths<'a>>
     ensures { option_map paths_of result ≡ paths_from kind.now instance.now solution.now }
 {
-    let kind = parse_kind(kind)?;
+    let format = parse_format(kind)?;
     Some(Paths {
-        kind,
+        format,
         instance,
         solution,
     })
@@ -227,11 +228,11 @@ fn paths_named<'a>(kind: &str, instance: &'a str, solution: &'a str) -> Option<P
 fn parse_audits<'a>(matches: &ArgMatches<'a>) -> Option<Invocation<'a>>
     ensures { option_map invocation_value result ≡ audits_in (rows_of (found_of matches.now)) }
 {
-    let kind = parse_kind(value_of(matches, "KIND")?)?;
+    let format = parse_format(value_of(matches, "KIND")?)?;
     let list = value_of(matches, "LIST")?;
     let routes_alone = parse_flag("routes", value_of(matches, "routes"))?;
     Some(Invocation::Audits {
-        kind,
+        format,
         list,
         routes_alone,
     })
@@ -242,7 +243,7 @@ fn parse_solve<'a>(matches: &ArgMatches<'a>) -> Option<SolveArgs<'a>>
     ensures { option_map task_of result ≡ solve_in (rows_of (found_of matches.now)) }
 {
     Some(SolveArgs {
-        kind: parse_kind(value_of(matches, "KIND")?)?,
+        format: parse_format(value_of(matches, "KIND")?)?,
         instance: value_of(matches, "INSTANCE")?,
         steps: parse_steps(value_of(matches, "STEPS")?)?,
         seed: seed_or_zero(matches)?,
@@ -255,7 +256,7 @@ fn parse_solves<'a>(matches: &ArgMatches<'a>) -> Option<SolvesArgs<'a>>
     ensures { option_map tasks_of result ≡ solves_in (rows_of (found_of matches.now)) }
 {
     Some(SolvesArgs {
-        kind: parse_kind(value_of(matches, "KIND")?)?,
+        format: parse_format(value_of(matches, "KIND")?)?,
         list: value_of(matches, "LIST")?,
         steps: parse_steps(value_of(matches, "STEPS")?)?,
         seed: seed_or_zero(matches)?,
@@ -268,20 +269,16 @@ fn parse_load<'a>(matches: &ArgMatches<'a>) -> Option<LoadArgs<'a>>
 {
     Some(LoadArgs {
         store: value_of(matches, "STORE")?,
-        kind: parse_kind(value_of(matches, "KIND")?)?,
+        format: parse_format(value_of(matches, "KIND")?)?,
         instance: value_of(matches, "INSTANCE")?,
         seed: seed_or_zero(matches)?,
     })
 }
 
-fn parse_kind(word: &str) -> Option<Kind>
-    ensures { result ≡ kind_named word.now }
+fn parse_format(word: &str) -> Option<Format>
+    ensures { result ≡ format_named word.now }
 {
-    match word {
-        "lilim" => Some(Kind::LiLim),
-        "vrp" => Some(Kind::Vrp),
-        _ => None,
-    }
+    Format::named(word.as_bytes())
 }
 
 fn parse_steps(word: &str) -> Option<u32>

@@ -1,6 +1,6 @@
 //! The commands of an input, executed on a session: `serve_source`, and a function for each kind of command.
 ghost use Rattle.std.specs.Prelude.{◌≡◌, ◌<◌, ◌++◌, ◌^◌, [], IfErr, IfOk, OnErr, OnOk, MatchResult, ℕ, List, Result, Ok, Err, Some, true, false, length};
-ghost use Rattle.plan_types.specs.declared.requests.Kind.{Kind};
+ghost use Rattle.instance_read.specs.declared.formats.Format.{Format};
 ghost use Rattle.command_text.specs.Answering.{at_line, executed_all, commands_of, question_reply, instance_reply, steps_or_refusal, next_reply, plain, print_reply, refused, show_reply, steps_to_make, unless_broken};
 ghost use Rattle.command_text.specs.Laws.{cut_at};
 ghost use Rattle.command_text.specs.Readings.{IsReading, Reading};
@@ -24,8 +24,8 @@ use command_text::{
     progress_after, question_refusal, question_text, read_instance, read_plan, show, states_follow,
     steps_to_make,
 };
+use instance_read::Format;
 use log::Log;
-use plan_types::Kind;
 use recover::{Denial, Reply, Session, runs_compose};
 use sector_disk::Sectors;
 use sol_text::WriteSolFault;
@@ -449,8 +449,8 @@ fn dropped<D: Sectors>(session: &Session<D>, purpose: Purpose) -> Answer
 }
 
 fn answer_to_unread_load<D: Sectors>(session: &Session<D>) -> Answer
-    ensures { (reading : Reading) (kind : Kind) (seed : ℕ) (bytes : List ℕ)
-        → Reports D.Sectors session.now (bytes_reply reading (Purpose.Load kind seed) bytes)
+    ensures { (reading : Reading) (format : Format) (seed : ℕ) (bytes : List ℕ)
+        → Reports D.Sectors session.now (bytes_reply reading (Purpose.Load format seed) bytes)
         (line (answer_text result)) session.now silent }
 {
     if session.is_broken() {
@@ -484,7 +484,7 @@ fn bytes_answer<L: Log, D: Sectors>(
         (line (answer_text result)) session.new silent }
 {
     match purpose {
-        Purpose::Load { kind, seed } => loaded(rt, alloc, session, kind, seed, text),
+        Purpose::Load { format, seed } => loaded(rt, alloc, session, format, seed, text),
         Purpose::Adopt => adopted(rt, alloc, session, text),
     }
 }
@@ -494,18 +494,18 @@ fn loaded<L: Log, D: Sectors>(
     rt: &L,
     alloc: Global,
     session: &mut Session<D>,
-    kind: Kind,
+    format: Format,
     seed: u64,
     text: &[u8],
 ) -> Answer
     ensures { (reading : Reading) → IsReading reading
-        → Reports D.Sectors session.old (bytes_reply reading (Purpose.Load kind seed) text.now)
+        → Reports D.Sectors session.old (bytes_reply reading (Purpose.Load format seed) text.now)
         (line (answer_text result)) session.new silent }
 {
     if session.is_broken() {
         return Answer::Broken;
     }
-    match read_instance(alloc, kind, text) {
+    match read_instance(alloc, format, text) {
         Ok(problem) => applied(rt, alloc, session, Command::Load(problem, seed)),
         Err(fault) => Answer::Read(fault),
     }

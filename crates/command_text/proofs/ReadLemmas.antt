@@ -1,7 +1,6 @@
 -- A text has at most one problem, none if it has a fault, and one first fault.
 use Rattle.std.proofs.Common.{◌≡◌, ◌∙◌, inl, inr, ℕ, List, Result, Ok, Err, sym, ap, refl, arith, IfOk, IfErr, ◌==◌, if◌then◌else◌}
 use Rattle.plan_types.specs.Instance.{Instance}
-use Rattle.plan_types.specs.declared.requests.Kind.{Kind}
 use Rattle.instance_read.specs.Faults.{Class, IsFirstFault, IsNoLater, IsNoLaterPlace, ReportsFirstFault, rank}
 use Rattle.instance_read.specs.Faults.Class.{OfLine, OfText}
 use Rattle.instance_read.specs.declared.faults.ReadFault.{ReadFault}
@@ -23,6 +22,7 @@ use Rattle.instance_read.specs.declared.faults.ReadFaultKind.TheVariants.{
 }
 use Rattle.instance_read.specs.Readings.{InstanceFault, IsReadResult, IsUnlessOutOfMemory, SpellsInstance}
 use Rattle.instance_read.proofs.SpelledLemmas.{no_fault, problem_once}
+use Rattle.instance_read.specs.declared.formats.Format.{Format}
 
 -- the kind of fault with this rank
 kind_at : ℕ → ReadFaultKind
@@ -79,11 +79,11 @@ fault_once : (Fault : Class → ℕ → ReadFaultKind → Type 0) (f g : ReadFau
 fault_once Fault f g a b = both_first a.0 b.0 f g (a.2 b.0 g.line g.kind b.1) (b.2 a.0 f.line f.kind a.1)
 
 -- a reader returns the contents of the text
-pub read_once : (kind : Kind) (text : List ℕ) (result found : Result Instance ReadFault) → IfOk result (SpellsInstance kind text)
-    → IfErr result (ReportsFirstFault (InstanceFault kind text)) → IsReadResult kind text found
+pub read_once : (format : Format) (text : List ℕ) (result found : Result Instance ReadFault) → IfOk result (SpellsInstance format text)
+    → IfErr result (ReportsFirstFault (InstanceFault format text)) → IsReadResult format text found
     → IsUnlessOutOfMemory result found
-read_once kind text (Ok p) (Ok q) spells tells is = inl (ap Ok (problem_once kind text p q spells is))
-read_once kind text (Ok p) (Err g) spells tells is = absurd (no_fault kind text p spells is.0 g.line g.kind is.1)
-read_once kind text (Err f) found spells (inl none) is = inr (ap Err none)
-read_once kind text (Err f) (Ok q) spells (inr first) is = absurd (no_fault kind text q is first.0 f.line f.kind first.1)
-read_once kind text (Err f) (Err g) spells (inr first) is = inl (ap Err (fault_once (InstanceFault kind text) f g first is))
+read_once format text (Ok p) (Ok q) spells tells is = inl (ap Ok (problem_once format text p q spells is))
+read_once format text (Ok p) (Err g) spells tells is = absurd (no_fault format text p spells is.0 g.line g.kind is.1)
+read_once format text (Err f) found spells (inl none) is = inr (ap Err none)
+read_once format text (Err f) (Ok q) spells (inr first) is = absurd (no_fault format text q is first.0 f.line f.kind first.1)
+read_once format text (Err f) (Err g) spells (inr first) is = inl (ap Err (fault_once (InstanceFault format text) f g first is))

@@ -165,7 +165,7 @@ adopts_on reading text s Empty = refl
 adopts_on reading text s (Loaded j) = adopts (next_fate s.fates) s (reading.plan j.problem j.pins text)
 
 takes : (reading : Reading) (purpose : Purpose) (text : List ℕ) (s : ServerState) → Follows s (text_reply reading purpose text s)
-takes reading (purpose.Load kind seed) text s = loads (next_fate s.fates) s seed (reading.instance kind text)
+takes reading (purpose.Load format seed) text s = loads (next_fate s.fates) s seed (reading.instance format text)
 takes reading purpose.Adopt text s = adopts_on reading text s s.state
 
 unbroken : (s : ServerState) (r : Reply) → Follows s r → Follows s (unless_broken s r)

@@ -256,7 +256,7 @@ adopt_on reading text s (Loaded j) = adopt (next_fate s.fates) s (reading.plan j
 
 -- The reply to a command that announces a text, by its purpose.
 abbrev pub text_reply : Reading → Purpose → List ℕ → ServerState → Reply
-text_reply reading (purpose.Load kind seed) text s = load (next_fate s.fates) s seed (reading.instance kind text)
+text_reply reading (purpose.Load format seed) text s = load (next_fate s.fates) s seed (reading.instance format text)
 text_reply reading purpose.Adopt text s = adopt_on reading text s s.state
 
 -- The given reply, unless the session is broken.

@@ -3,11 +3,11 @@ use Rattle.std.specs.Prelude.{◌≡◌, ℕ, ◌<◌, ◌≤◌, ◌^◌, List,
 use Rattle.std.specs.Str.Lines.{strip_carriage_return}
 use Rattle.text_lines.specs.Lines.{HasNoLineFeed}
 use Rattle.plan_types.specs.Instance.{Instance, IsInstance}
-use Rattle.plan_types.specs.declared.requests.Kind.{Kind}
 use Rattle.command_types.specs.Job.{JobValue}
 use Rattle.command_core.specs.Runs.{after}
 use Rattle.command_types.specs.declared.states.State.{State}
 use Rattle.command_types.specs.declared.states.State.TheVariants.{Loaded}
+use Rattle.instance_read.specs.declared.formats.Format.{Format}
 use Rattle.command_text.specs.Answering.{Fate, ServerState, unbroken_session, commands_of, steps_or_refusal, served, steps_to_make}
 use Rattle.command_text.specs.Parsing.{requested}
 use Rattle.command_text.specs.Cutting.{Piece, announced, ends, pieces_of}
@@ -67,7 +67,7 @@ SomeReadingExists = (reading : Reading) × IsReading reading
 
 -- Two readings return the same for each text.
 pub record ReadAlike (reading other : Reading) : Type 0 where
-  pub instances : (kind : Kind) (text : List ℕ) → reading.instance kind text ≡ other.instance kind text
+  pub instances : (format : Format) (text : List ℕ) → reading.instance format text ≡ other.instance format text
   pub plans : (p : Instance) (pins : List (List ℕ)) (text : List ℕ) → IsInstance p → reading.plan p pins text ≡ other.plan p pins text
 
 -- Any two readings return the same for each text.

@@ -4,8 +4,8 @@ use Rattle.std.specs.Int.RustNames.{unsigned_abs}
 use Rattle.std.specs.Option.{option_and_then, option_map, option_map_or}
 use Rattle.text_lines.specs.Words.{words_of}
 use Rattle.text_lines.specs.Numbers.{integer_of, below}
-use Rattle.plan_types.specs.declared.requests.Kind.{Kind}
-use Rattle.plan_types.specs.declared.requests.Kind.TheVariants.{LiLim, Vrp}
+use Rattle.instance_read.specs.Formats.{format_named}
+use Rattle.instance_read.specs.declared.formats.Format.{Format}
 use Rattle.plan_types.specs.Limits.{max_requested_steps}
 use Rattle.command_types.specs.declared.commands.Spot.{Spot}
 use Rattle.command_types.specs.declared.commands.Command.{Command}
@@ -155,28 +155,24 @@ parse_numbers v (q ∷ x ∷ y ∷ e ∷ l ∷ s ∷ []) = parse_spot v q (spot_
 parse_numbers v (q ∷ x ∷ y ∷ e ∷ l ∷ s ∷ x' ∷ y' ∷ e' ∷ l' ∷ s' ∷ []) = parse_two_spots v q (spot_of x y e l s) (spot_of x' y' e' l' s')
 parse_numbers v _ = BadLine
 
--- The kind of instance that a word names.
-abbrev pub kind_named : List ℕ → Option Kind
-kind_named word = if bytes_eq (codes "lilim") word then Some LiLim else if bytes_eq (codes "vrp") word then Some Vrp else None
-
 -- LEN in 0..=16,777,216.
 abbrev pub text_within : Purpose → Option ℕ → ParsedCommand
 text_within purpose (Some len) = Text purpose len
 text_within purpose None = TextRange
 
 -- SEED in 0..=2^64 - 1.
-abbrev pub load_within : Kind → Option ℕ → Option ℕ → ParsedCommand
-load_within kind (Some seed) len = text_within (purpose.Load kind seed) len
-load_within kind None len = TextRange
+abbrev pub load_within : Format → Option ℕ → Option ℕ → ParsedCommand
+load_within format (Some seed) len = text_within (purpose.Load format seed) len
+load_within format None len = TextRange
 
-abbrev pub load_with : Option Kind → Option (List Field) → ParsedCommand
-load_with (Some kind) (Some (seed ∷ len ∷ [])) = load_within kind seed.unsigned (below 16777217 len.unsigned)
+abbrev pub load_with : Option Format → Option (List Field) → ParsedCommand
+load_with (Some format) (Some (seed ∷ len ∷ [])) = load_within format seed.unsigned (below 16777217 len.unsigned)
 load_with _ _ = BadText
 
 -- The words after `load`: KIND SEED LEN.
 abbrev pub parse_load : List (List ℕ) → ParsedCommand
 parse_load [] = BadText
-parse_load (kind ∷ words) = load_with (kind_named kind) (fields_of words)
+parse_load (kind ∷ words) = load_with (format_named kind) (fields_of words)
 
 -- The words after `adopt`: LEN.
 abbrev pub adopt_with : Option (List Field) → ParsedCommand

@@ -6,7 +6,7 @@ use Rattle.vehicle_assignment.specs.Laws.{AssignmentFunction, IsAssignmentFuncti
 use Rattle.vehicle_assignment.specs.declared.faults.AssignmentFault.{AssignmentFault}
 use Rattle.vehicle_assignment.specs.declared.faults.AssignmentFault.TheVariants.{OutOfMemory}
 
--- The contents of each text: the instance in a text of a kind, and the plan in a solution's text, for a problem
+-- The contents of each text: the instance in a text in a format, and the plan in a solution's text, for a problem
 -- and its pins.
 pub record Reading : Type 0 where
   pub instance : InstanceReading

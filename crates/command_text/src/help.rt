@@ -5,7 +5,7 @@ ghost use Rattle.command_text.specs.Answers.{help_text};
 
 /// The commands, their answers, and the reasons for a refusal, without the line feed at the end.
 pub const HELP: &str = "Each line is one command:\n  \
-    load lilim|vrp SEED LEN    starts with a new instance: the LEN bytes after this line\n  \
+    load KIND SEED LEN         starts with a new instance: the LEN bytes after this line; KIND is lilim, solomon or vrp\n  \
     adopt LEN                  replaces the plan by a solution that costs no more: the LEN bytes after this line\n  \
     build                      inserts each unplanned request at its best place\n  \
     search N, reach N          makes N search steps, or those that are left to step N\n  \
@@ -47,7 +47,7 @@ pub const HELP: &str = "Each line is one command:\n  \
     NumbersSpent   a stop would get a number above 40,000\n  \
     StepsSpent     there would be more than 2^60 steps\n  \
     NoTimes        a vrp instance has no times, so `freeze` can't say what has begun\n  \
-    NoFormat       the format that was loaded can't express the requests as they are now\n  \
+    NoFormat       no format can express the requests as they are now\n  \
     NotAPlan       the solution breaks the rule that the line before names\n  \
     Dearer         the solution costs more than the plan\n  \
     Unplanned      a request is in no route, so there is no solution to print\n  \

@@ -34,7 +34,7 @@ pub fn reaches_may_be_cut()
     searches_add_up();
 }
 
-/// Proves that each text of either kind of instance has one problem or one first fault. Each text of a
+/// Proves that each text of an instance, in any format, has one problem or one first fault. Each text of a
 /// solution, for a problem and its pins, has one plan or one reason why there is none. So a `Reading` exists,
 /// and a guarantee for every reading holds for that one.
 pub fn texts_have_a_reading()

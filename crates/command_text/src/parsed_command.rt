@@ -9,11 +9,11 @@ use crate::fields::{Field, Fields, integers};
 use crate::questions::Question;
 use crate::steps::StepRequest;
 use crate::verbs::{
-    Verb, is_word, kind_named, parse_no_numbers, parse_one_number, parse_spot, parse_two_numbers,
+    Verb, is_word, parse_no_numbers, parse_one_number, parse_spot, parse_two_numbers,
     parse_two_spots, spot_of, verb_named,
 };
 use command_core::{Command, Refusal};
-use plan_types::Kind;
+use instance_read::Format;
 use text_lines::Words;
 
 /// The maximum length of a line in bytes, without its line end.
@@ -25,7 +25,7 @@ pub const MAX_TEXT_LEN: u64 = 16_777_216;
 #[derive(Clone, Copy, Debug, PartialEq, Eq)]
 pub enum Purpose {
     /// An instance, to start over with.
-    Load { kind: Kind, seed: u64 },
+    Load { format: Format, seed: u64 },
     /// A solution, whose plan is adopted.
     Adopt,
 }
@@ -144,29 +144,29 @@ fn parse_load(words: &mut Words<'_>) -> ParsedCommand
     let Some(kind) = words.next() else {
         return ParsedCommand::BadText;
     };
-    load_with(kind_named(kind), integers(words))
+    load_with(Format::named(kind), integers(words))
 }
 
-fn load_with(kind: Option<Kind>, fields: Option<Fields>) -> ParsedCommand
-    ensures { result ≡ load_with kind fields }
+fn load_with(format: Option<Format>, fields: Option<Fields>) -> ParsedCommand
+    ensures { result ≡ load_with format fields }
 {
-    let Some(kind) = kind else {
+    let Some(format) = format else {
         return ParsedCommand::BadText;
     };
     let Some(fields) = fields else {
         return ParsedCommand::BadText;
     };
     match fields.as_slice() {
-        [seed, len] => load_within(kind, seed.unsigned, len.unsigned),
+        [seed, len] => load_within(format, seed.unsigned, len.unsigned),
         _ => ParsedCommand::BadText,
     }
 }
 
-fn load_within(kind: Kind, seed: Option<u64>, len: Option<u64>) -> ParsedCommand
-    ensures { result ≡ load_within kind seed (below 16777217 len) }
+fn load_within(format: Format, seed: Option<u64>, len: Option<u64>) -> ParsedCommand
+    ensures { result ≡ load_within format seed (below 16777217 len) }
 {
     match seed {
-        Some(seed) => text_within(Purpose::Load { kind, seed }, len),
+        Some(seed) => text_within(Purpose::Load { format, seed }, len),
         None => ParsedCommand::TextRange,
     }
 }

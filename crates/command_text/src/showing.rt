@@ -220,7 +220,7 @@ pub fn print(alloc: Global, job: &Job) -> Result<Text, WriteSolFault>
 ///
 /// # Errors
 ///
-/// `NoFormat` if the format of its kind can't express it, then `OutOfMemory`.
+/// `NoFormat` if no format can express it, then `OutOfMemory`.
 pub fn print_instance(alloc: Global, job: &Job) -> Result<Text, WriteFault>
     ensures text { IfOk result (λ text. text ≡ instance_text job.now.problem) }
     ensures no_format { has_format job.now.problem ≡ false

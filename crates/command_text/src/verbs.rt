@@ -1,13 +1,12 @@
 //! The commands that announce no text: their names, and their meaning with their numbers.
 ghost use Rattle.std.specs.Prelude.{◌≡◌, bytes_eq, map};
-ghost use Rattle.command_text.specs.Parsing.{add1_of, add_of, anneal_of, parse_no_numbers, count_of, parse_two_numbers, freeze_of, kind_named, pin_of, plain_or, reach_of, reduce_of, search_of, parse_one_number, parse_spot, spot_of, parse_two_spots, stages_of, steps_or, verb_among, verb_named};
+ghost use Rattle.command_text.specs.Parsing.{add1_of, add_of, anneal_of, parse_no_numbers, count_of, parse_two_numbers, freeze_of, pin_of, plain_or, reach_of, reduce_of, search_of, parse_one_number, parse_spot, spot_of, parse_two_spots, stages_of, steps_or, verb_among, verb_named};
 
 use crate::fields::Field;
 use crate::parsed_command::ParsedCommand;
 use crate::questions::Question;
 use crate::steps::StepRequest;
 use command_core::{Command, MAX_STEPS, Refusal, Spot};
-use plan_types::Kind;
 use plan_types::limits::{MAX_REQUESTED_STEPS, MAX_TIME};
 
 /// The first word of a command.
@@ -87,17 +86,6 @@ pub(crate) fn is_word(word: &[u8], name: &[u8]) -> bool
     ensures { result ≡ bytes_eq name.now word.now }
 {
     name == word
-}
-
-/// Returns the kind of instance that a word names.
-pub(crate) fn kind_named(word: &[u8]) -> Option<Kind>
-    ensures { result ≡ kind_named word.now }
-{
-    match word {
-        b"lilim" => Some(Kind::LiLim),
-        b"vrp" => Some(Kind::Vrp),
-        _ => None,
-    }
 }
 
 /// Parses a command without numbers.

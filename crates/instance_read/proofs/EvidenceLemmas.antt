@@ -120,7 +120,7 @@ rows_filled n (l ∷ ls) =
     (cases_Bool (is_blank_line l))
 
 -- the text of the last of these lines, or this text if there is none
-abbrev last_text : List ℕ → List Row → List ℕ
+abbrev pub last_text : List ℕ → List Row → List ℕ
 last_text text [] = text
 last_text text (row ∷ rows) = last_text row.text rows
 
@@ -134,7 +134,7 @@ after_line : (kind : ReadFaultKind) (words : List (List ℕ)) (text : List ℕ)
 after_line kind words [] e = absurd (false≢true (sym e))
 after_line kind words (b ∷ text) e = refl
 
-above_here : (n : ℕ) (before : List Row) (row : Row) (after : List Row) → LinesAbove n (before ++ row ∷ after) → n < row.line
+pub above_here : (n : ℕ) (before : List Row) (row : Row) (after : List Row) → LinesAbove n (before ++ row ∷ after) → n < row.line
 above_here n [] row after l = l.0
 above_here n (r ∷ before) row after l = omega (arith, l.0, above_here r.line before row after l.1)
 

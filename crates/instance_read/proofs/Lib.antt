@@ -30,3 +30,4 @@ pub mod SingleLemmas
 pub mod ReadableLemmas
 pub mod SpelledLemmas
 pub mod EvidenceLemmas
+pub mod SolomonEvidenceLemmas

@@ -12,11 +12,14 @@ use Rattle.instance_read.specs.declared.faults.ReadFault.{ReadFault}
 use Rattle.instance_read.specs.declared.faults.ReadFaultKind.{ReadFaultKind}
 use Rattle.instance_read.specs.declared.faults.ReadFaultKind.TheVariants.{BadNumber, Range, FieldCount, TaskOrder, PairMismatch, EmptyWindow, TooManyStops}
 use Rattle.instance_read.specs.declared.faults.ReadFaultKind.TheVariants.{MissingKey, Unsupported, DepotNotFirst, NodeRepeated, Truncated, OutOfMemory}
+use Rattle.instance_read.specs.declared.formats.Layout.{Layout}
+use Rattle.instance_read.specs.declared.formats.Layout.TheVariants.{LiLim, Solomon, Vrp}
 use Rattle.instance_read.specs.declared.tasks.Task.{Task}
 use Rattle.instance_read.specs.Faults.{Class, HasNoFault, IsFirstFault, IsNoLater, IsNoLaterPlace, OfLine, OfText, rank}
 use Rattle.instance_read.specs.Lilim.{LilimFault, SpellsLilim, header_fault, problem_of, stop_fault, task_limits}
 use Rattle.instance_read.specs.Pairs.{is_mismatched, task_of}
-use Rattle.instance_read.specs.Readable.{SpellsOrFails, TextsHaveAReading, ReadingsAreUnique}
+use Rattle.instance_read.specs.Readable.{IsUniqueReading, SpellsOrFails, TextsHaveAReading, ReadingsAreUnique}
+use Rattle.instance_read.specs.Readings.{LayoutFault, SpellsLayout}
 use Rattle.instance_read.specs.Rows.{Row, rows_of}
 use Rattle.instance_read.specs.Solomon.{IsProblemOf, LinesFault, LineTest, SolomonFault, SpellsSolomon, customer_limits, heading}
 use Rattle.instance_read.specs.Vrp.{SpellsVrp, VrpFault, is_inside, lacks_key, place_fault, vrp_problem}
@@ -218,8 +221,13 @@ solomon_read text =
     (λ first. inr first)
     (lines_found (length (lines_of text) + 1) heading (rows_of text) (rows_above 0 (lines_of text)))
 
+layout_read : (layout : Layout) (text : List ℕ) → SpellsOrFails (SpellsLayout layout text) (LayoutFault layout text)
+layout_read LiLim text = lilim_read text
+layout_read Solomon text = solomon_read text
+layout_read Vrp text = vrp_read text
+
 pub texts_are_read : TextsHaveAReading
-texts_are_read text = (lilim_read text, vrp_read text, solomon_read text)
+texts_are_read format text = layout_read format.layout text
 
 -- there are no two readings: each rank belongs to one kind, and each of two first faults is no later than the
 -- other
@@ -263,25 +271,26 @@ one_problem rows header depot customers other its others is same =
     ap (λ row. problem_of row depot customers) (cons_head header other (depot ∷ customers) (its ∷ others) whole)
     ∙ ap (λ row. problem_of other row customers) (cons_head depot its customers others rest) ∙ ap (problem_of other its) (cons_tail depot its customers others rest)
 
-same_singles : (rows : List Row) (p q : Instance) → IsProblemOf rows p → IsProblemOf rows q → p ≡ q
+pub same_singles : (rows : List Row) (p q : Instance) → IsProblemOf rows p → IsProblemOf rows q → p ≡ q
 same_singles (a ∷ b ∷ c ∷ d ∷ e ∷ f ∷ depot ∷ customers) p q is same = is ∙ sym same
 same_singles rows p q is same = absurd is
 
+layout_read_one_way : (layout : Layout) (text : List ℕ) → IsUniqueReading (SpellsLayout layout text) (LayoutFault layout text)
+layout_read_one_way LiLim text = record {
+  problems = λ p q a b. a.5 ∙ one_problem (rows_of text) a.1 a.2 a.3 b.1 b.2 b.3 a.4 b.4 ∙ sym b.5;
+  faults = one_fault (LilimFault text);
+  either = λ p f a first. none_first (LilimFault text) f a.0 first;
+}
+layout_read_one_way Solomon text = record {
+  problems = λ p q a b. same_singles (rows_of text) p q a.1 b.1;
+  faults = one_fault (SolomonFault text);
+  either = λ p f a first. none_first (SolomonFault text) f a.0 first;
+}
+layout_read_one_way Vrp text = record {
+  problems = λ p q a b. a.1 ∙ sym b.1;
+  faults = one_fault (VrpFault text);
+  either = λ p f a first. none_first (VrpFault text) f a.0 first;
+}
+
 pub texts_are_read_one_way : ReadingsAreUnique
-texts_are_read_one_way text = (
-  record {
-    problems = λ p q a b. a.5 ∙ one_problem (rows_of text) a.1 a.2 a.3 b.1 b.2 b.3 a.4 b.4 ∙ sym b.5;
-    faults = one_fault (LilimFault text);
-    either = λ p f a first. none_first (LilimFault text) f a.0 first;
-  },
-  record {
-    problems = λ p q a b. a.1 ∙ sym b.1;
-    faults = one_fault (VrpFault text);
-    either = λ p f a first. none_first (VrpFault text) f a.0 first;
-  },
-  record {
-    problems = λ p q a b. same_singles (rows_of text) p q a.1 b.1;
-    faults = one_fault (SolomonFault text);
-    either = λ p f a first. none_first (SolomonFault text) f a.0 first;
-  },
-)
+texts_are_read_one_way format text = layout_read_one_way format.layout text

@@ -6,11 +6,15 @@ use Rattle.instance_read.specs.Fields.{any_beyond, has_no_number}
 use Rattle.instance_read.specs.Lilim.{LilimFault, header_limits, task_limits}
 use Rattle.instance_read.specs.LilimEvidence.{header_fields, lilim_evidence, task_fields}
 use Rattle.instance_read.specs.Rows.{Row, rows_of}
+use Rattle.instance_read.specs.Solomon.{SolomonFault, customer_limits}
+use Rattle.instance_read.specs.SolomonEvidence.{customer_fields, fleet_fields, line_after, solomon_evidence}
 use Rattle.instance_read.specs.WordEvidence.{is_faulty, numbers_evidence}
 use Rattle.instance_read.specs.declared.evidence.Evidence.{Evidence}
 use Rattle.instance_read.specs.declared.evidence.Evidence.TheVariants.{Word}
 use Rattle.instance_read.specs.declared.evidence.Field.{Field}
 use Rattle.instance_read.specs.declared.evidence.Field.TheVariants.{ExtraWord}
+use Rattle.instance_read.specs.declared.evidence.SolomonLine.{SolomonLine}
+use Rattle.instance_read.specs.declared.evidence.SolomonLine.TheVariants.{Fleet, Name}
 use Rattle.instance_read.specs.declared.faults.ReadFault.{ReadFault}
 use Rattle.instance_read.specs.declared.faults.ReadFaultKind.{ReadFaultKind}
 use Rattle.instance_read.specs.declared.faults.ReadFaultKind.TheVariants.{BadNumber, Range}
@@ -36,7 +40,7 @@ pub record IsFirstWord (kind : ReadFaultKind) (fields : List Field) (limits : Li
   pub at_fault : is_faulty kind (slice_get limits (k + length front)) word ≡ true
   pub first : any_faulty kind limits k front ≡ false
 
--- law for either format: the evidence for a line with a word that is not a number, or with a number beyond its
+-- law for any format: the evidence for a line with a word that is not a number, or with a number beyond its
 -- limits, is the first such word
 abbrev pub NumbersShowTheWord : Type 0
 NumbersShowTheWord = (fields : List Field) (limits : List (ℤ × ℤ)) (words : List (List ℕ))
@@ -61,3 +65,27 @@ ShowsWord text fault =
 -- law: if the first fault of a Li-Lim text is a bad number, its evidence is the first bad number in the line
 abbrev pub EvidenceShowsTheWord : Type 0
 EvidenceShowsTheWord = (text : List ℕ) (fault : ReadFault) → IsFirstFault (LilimFault text) fault → IsWordFault fault.kind → ShowsWord text fault
+
+-- the line that is due after these lines, the first of which is `due`
+abbrev pub due_after : SolomonLine → List Row → SolomonLine
+due_after due [] = due
+due_after due (row ∷ before) = due_after (line_after due) before
+
+-- the fields of a line with numbers in Solomon's format
+abbrev pub fields_due : SolomonLine → List Field
+fields_due Fleet = fleet_fields
+fields_due _ = customer_fields
+
+abbrev pub limits_due : SolomonLine → List (ℤ × ℤ)
+limits_due Fleet = header_limits
+limits_due _ = customer_limits
+
+-- the evidence is the first word at fault in the line that the fault names, of a text in Solomon's format
+abbrev pub ShowsDueWord : List ℕ → ReadFault → Type 0
+ShowsDueWord text fault =
+    (before : List Row) × (row : Row) × (after : List Row) × (rows_of text ≡ before ++ row ∷ after) × (row.line ≡ fault.line)
+    × IsFirstWord fault.kind (fields_due (due_after Name before)) (limits_due (due_after Name before)) 0 (words_of row.text) (solomon_evidence text fault)
+
+-- law: the same for a text in Solomon's format
+abbrev pub SolomonEvidenceShowsTheWord : Type 0
+SolomonEvidenceShowsTheWord = (text : List ℕ) (fault : ReadFault) → IsFirstFault (SolomonFault text) fault → IsWordFault fault.kind → ShowsDueWord text fault

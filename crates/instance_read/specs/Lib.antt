@@ -1,6 +1,7 @@
 -- definitions that public contracts use
 pub mod Faults
 pub mod Names
+pub mod Formats
 pub mod Fields
 pub mod FieldValues
 pub mod Rows
@@ -11,10 +12,11 @@ pub mod VrpLines
 pub mod Vrp
 pub mod VrpKeys
 pub mod VrpLaws
-pub mod Readable
 pub mod Readings
+pub mod Readable
 pub mod WordEvidence
 pub mod LilimEvidence
+pub mod SolomonEvidence
 pub mod VrpEvidence
 pub mod Evidence
 pub mod EvidenceLaws

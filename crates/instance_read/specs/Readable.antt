@@ -4,9 +4,8 @@ use Rattle.plan_types.specs.Instance.{Instance}
 use Rattle.instance_read.specs.declared.faults.ReadFault.{ReadFault}
 use Rattle.instance_read.specs.declared.faults.ReadFaultKind.{ReadFaultKind}
 use Rattle.instance_read.specs.Faults.{Class, IsFirstFault}
-use Rattle.instance_read.specs.Lilim.{LilimFault, SpellsLilim}
-use Rattle.instance_read.specs.Solomon.{SolomonFault, SpellsSolomon}
-use Rattle.instance_read.specs.Vrp.{SpellsVrp, VrpFault}
+use Rattle.instance_read.specs.Readings.{InstanceFault, SpellsInstance}
+use Rattle.instance_read.specs.declared.formats.Format.{Format}
 
 -- the text spells a problem, or there is a first fault, in the sense of `Fault`
 abbrev pub SpellsOrFails : (Instance → Type 0) → (Class → ℕ → ReadFaultKind → Type 0) → Type 0
@@ -18,13 +17,9 @@ pub record IsUniqueReading (Spells : Instance → Type 0) (Fault : Class → ℕ
   pub faults : (fault other : ReadFault) → IsFirstFault Fault fault → IsFirstFault Fault other → fault ≡ other
   pub either : (problem : Instance) (fault : ReadFault) → Spells problem → IsFirstFault Fault fault → ⊥
 
--- law: every text of any format spells a problem or has a first fault
+-- law: every text spells a problem or has a first fault, in any format
 abbrev pub TextsHaveAReading : Type 0
-TextsHaveAReading = (text : List ℕ)
-    → SpellsOrFails (SpellsLilim text) (LilimFault text) × SpellsOrFails (SpellsVrp text) (VrpFault text)
-    × SpellsOrFails (SpellsSolomon text) (SolomonFault text)
+TextsHaveAReading = (format : Format) (text : List ℕ) → SpellsOrFails (SpellsInstance format text) (InstanceFault format text)
 
 abbrev pub ReadingsAreUnique : Type 0
-ReadingsAreUnique = (text : List ℕ)
-    → IsUniqueReading (SpellsLilim text) (LilimFault text) × IsUniqueReading (SpellsVrp text) (VrpFault text)
-    × IsUniqueReading (SpellsSolomon text) (SolomonFault text)
+ReadingsAreUnique = (format : Format) (text : List ℕ) → IsUniqueReading (SpellsInstance format text) (InstanceFault format text)

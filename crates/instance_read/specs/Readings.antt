@@ -1,35 +1,47 @@
 -- The problem that an instance text spells.
 use Rattle.std.specs.Prelude.{◌≡◌, ◌⊎◌, ℕ, List, Result, Ok, Err}
 use Rattle.plan_types.specs.Instance.{Instance}
-use Rattle.plan_types.specs.declared.requests.Kind.{Kind}
-use Rattle.plan_types.specs.declared.requests.Kind.TheVariants.{LiLim, Vrp}
 use Rattle.instance_read.specs.Faults.{Class, IsFirstFault, out_of_memory}
 use Rattle.instance_read.specs.Lilim.{LilimFault, SpellsLilim}
+use Rattle.instance_read.specs.Solomon.{SolomonFault, SpellsSolomon}
 use Rattle.instance_read.specs.Vrp.{SpellsVrp, VrpFault}
 use Rattle.instance_read.specs.declared.faults.ReadFault.{ReadFault}
 use Rattle.instance_read.specs.declared.faults.ReadFaultKind.{ReadFaultKind}
+use Rattle.instance_read.specs.declared.formats.Format.{Format}
+use Rattle.instance_read.specs.declared.formats.Layout.{Layout}
+use Rattle.instance_read.specs.declared.formats.Layout.TheVariants.{LiLim, Solomon, Vrp}
 
--- a fault of a text in the format of this kind
-abbrev pub InstanceFault : Kind → List ℕ → Class → ℕ → ReadFaultKind → Type 0
-InstanceFault LiLim text = LilimFault text
-InstanceFault Vrp text = VrpFault text
+-- a fault of a text with this layout
+abbrev pub LayoutFault : Layout → List ℕ → Class → ℕ → ReadFaultKind → Type 0
+LayoutFault LiLim text = LilimFault text
+LayoutFault Solomon text = SolomonFault text
+LayoutFault Vrp text = VrpFault text
 
--- the problem that the text spells
-abbrev pub SpellsInstance : Kind → List ℕ → Instance → Type 0
-SpellsInstance LiLim text = SpellsLilim text
-SpellsInstance Vrp text = SpellsVrp text
+-- a fault of a text in this format
+abbrev pub InstanceFault : Format → List ℕ → Class → ℕ → ReadFaultKind → Type 0
+InstanceFault format text = LayoutFault format.layout text
+
+-- the problem that the text spells with this layout
+abbrev pub SpellsLayout : Layout → List ℕ → Instance → Type 0
+SpellsLayout LiLim text = SpellsLilim text
+SpellsLayout Solomon text = SpellsSolomon text
+SpellsLayout Vrp text = SpellsVrp text
+
+-- the problem that the text spells in this format
+abbrev pub SpellsInstance : Format → List ℕ → Instance → Type 0
+SpellsInstance format text = SpellsLayout format.layout text
 
 -- the problem that the text spells, or its first fault
-abbrev pub IsReadResult : Kind → List ℕ → Result Instance ReadFault → Type 0
-IsReadResult kind text (Ok p) = SpellsInstance kind text p
-IsReadResult kind text (Err fault) = IsFirstFault (InstanceFault kind text) fault
+abbrev pub IsReadResult : Format → List ℕ → Result Instance ReadFault → Type 0
+IsReadResult format text (Ok p) = SpellsInstance format text p
+IsReadResult format text (Err fault) = IsFirstFault (InstanceFault format text) fault
 
 -- a function that says what each text spells
 abbrev pub Reading : Type 0
-Reading = Kind → List ℕ → Result Instance ReadFault
+Reading = Format → List ℕ → Result Instance ReadFault
 
 abbrev pub IsReading : Reading → Type 0
-IsReading reading = (kind : Kind) (text : List ℕ) → IsReadResult kind text (reading kind text)
+IsReading reading = (format : Format) (text : List ℕ) → IsReadResult format text (reading format text)
 
 -- the result found, unless memory ran out
 abbrev pub IsUnlessOutOfMemory : Result Instance ReadFault → Result Instance ReadFault → Type 0

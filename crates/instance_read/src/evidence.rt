@@ -5,10 +5,11 @@ ghost use Rattle.instance_read.specs.Evidence.{evidence_of};
 
 use crate::ReadFault;
 use crate::field_limits::Limits;
+use crate::formats::{Format, Layout};
 use crate::lilim_evidence::lilim_evidence;
+use crate::solomon_evidence::solomon_evidence;
 use crate::vrp_evidence::vrp_evidence;
 use crate::vrp_lines::Key;
-use plan_types::Kind;
 use std::marker::Model;
 
 /// Bytes of a text: a word of a line, its key, or the value after the key.
@@ -48,11 +49,15 @@ pub enum Field {
     Capacity,
     Speed,
     Number,
+    /// The number of a customer, in Solomon's format.
+    Customer,
     X,
     Y,
     Demand,
     Earliest,
     Latest,
+    Ready,
+    Due,
     Service,
     Pickup,
     Delivery,
@@ -62,6 +67,22 @@ pub enum Field {
     Value(Key),
     /// A word after those that the line should have.
     ExtraWord,
+}
+
+/// A line of a text in Solomon's format.
+#[derive(Clone, Copy)]
+pub enum SolomonLine {
+    Name,
+    /// The lines that begin with `VEHICLE` and `NUMBER`.
+    Vehicle,
+    Number,
+    /// The line with fleet and capacity.
+    Fleet,
+    /// The lines that begin with `CUSTOMER` and `CUST`.
+    Customers,
+    Columns,
+    Depot,
+    Customer,
 }
 
 /// The details of a fault that its line shows. Words are exactly as in the text.
@@ -93,6 +114,13 @@ pub enum Evidence<'a> {
     /// The number of a task, and that of the task before it.
     TaskOutOfOrder {
         task: Excerpt<'a>,
+        before: Excerpt<'a>,
+    },
+    /// The number of the first customer, which is not 0.
+    FirstCustomer(Excerpt<'a>),
+    /// The number of a customer, and that of the customer before it.
+    CustomerOutOfOrder {
+        customer: Excerpt<'a>,
         before: Excerpt<'a>,
     },
     /// The beginning and the end of an empty time window.
@@ -127,6 +155,10 @@ pub enum Evidence<'a> {
     /// The first line, or task 0, is missing.
     NoHeader,
     NoDepot,
+    /// The line that is due begins with another word than it must.
+    WrongWord(SolomonLine, Excerpt<'a>),
+    /// The text ends before the line that is due.
+    MissingLine(SolomonLine),
     /// There are words after -1, which ends the list of depots.
     WordsAfterEnd,
     /// A line of numbers is not in a section. The value is the number of lines of a section of nodes, if it is
@@ -148,11 +180,12 @@ pub enum Evidence<'a> {
 }
 
 /// Returns the details of the first fault of an instance text.
-pub fn evidence_of<'a>(kind: Kind, text: &'a [u8], fault: ReadFault) -> Evidence<'a>
-    ensures is { result ≡ evidence_of kind text.now fault }
+pub fn evidence_of<'a>(format: Format, text: &'a [u8], fault: ReadFault) -> Evidence<'a>
+    ensures is { result ≡ evidence_of format text.now fault }
 {
-    match kind {
-        Kind::LiLim => lilim_evidence(text, fault),
-        Kind::Vrp => vrp_evidence(text, fault),
+    match format.layout {
+        Layout::LiLim => lilim_evidence(text, fault),
+        Layout::Solomon => solomon_evidence(text, fault),
+        Layout::Vrp => vrp_evidence(text, fault),
     }
 }

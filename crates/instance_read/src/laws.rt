@@ -1,5 +1,5 @@
 //! The lines and sections of a `.vrp` text, and that every text is read, as laws about every text.
-ghost use Rattle.instance_read.specs.EvidenceLaws.{EvidenceShowsTheWord, NumbersShowTheWord};
+ghost use Rattle.instance_read.specs.EvidenceLaws.{EvidenceShowsTheWord, NumbersShowTheWord, SolomonEvidenceShowsTheWord};
 ghost use Rattle.instance_read.specs.Readable.{TextsHaveAReading, ReadingsAreUnique};
 ghost use Rattle.instance_read.specs.VrpKeys.{KeyLinesFollowGrammar};
 ghost use Rattle.instance_read.specs.VrpLaws.{DepotsAreTwoWords, OnlyDimensionAnnounces, EndIsTheEnd, OtherLinesStayOutside, SectionsHaveALineForEachNode};
@@ -40,9 +40,10 @@ pub fn every_text_has_one_reading()
 {}
 
 /// States that the evidence for a line with a bad number is its first such word, with its field and the limits
-/// of the field. A bad number is a word that is not a number, or a number beyond its limits. In a Li-Lim text
-/// whose first fault is of this kind, the line is the one that the fault names.
+/// of the field. A bad number is a word that is not a number, or a number beyond its limits. In a Li-Lim text or
+/// a text in Solomon's format whose first fault is of this kind, the line is the one that the fault names.
 pub fn evidence_shows_the_word()
     ensures numbers { NumbersShowTheWord }
     ensures lilim { EvidenceShowsTheWord }
+    ensures solomon { SolomonEvidenceShowsTheWord }
 {}

@@ -1,11 +1,11 @@
 //! Reads instance files: Li and Lim's pickup and delivery instances, Solomon's instances of vehicle routing with
 //! time windows, and the `.vrp` files of CVRPLIB.
 //!
-//! The entry points are `read_lilim`, `read_solomon`, `read_vrp`, and `read_instance` for a Li-Lim or a `.vrp`
-//! text. Each returns the `Problem` that a text spells, or the first fault of the text. A text spells a problem
-//! if it has no fault and its lines describe that problem. `evidence_of` returns the details of a fault that its
-//! line shows, such as the field and its limits, except for Solomon's format; `plan_explain` puts them into
-//! words. `split_key` splits a line of a `.vrp` file into key and value.
+//! The entry points are `read_lilim`, `read_solomon`, `read_vrp`, and `read_instance` for a text in any `Format`.
+//! Each returns the `Problem` that a text spells, or the first fault of the text. A text spells a problem if it
+//! has no fault and its lines describe that problem. `evidence_of` returns the details of a fault that its line
+//! shows, such as the field and its limits; `plan_explain` puts them into words. `split_key` splits a line of a
+//! `.vrp` file into key and value.
 //!
 //! Sources: Li and Lim's benchmark instances for PDPTW; those of Solomon, and of Gehring and Homberger, for
 //! VRPTW; the keys and sections of TSPLIB95, as CVRPLIB's instances use them (TYPE CVRP, EDGE_WEIGHT_TYPE
@@ -34,9 +34,10 @@
 //! - `vrp_draft`: the data from the lines read so far
 //! - `vrp_problem`: the problem that the lines spell
 //! - `vrp`: the reader of `.vrp` texts
-//! - `instance`: the reader of Li-Lim and `.vrp` texts
-//! - `number_evidence`, `lilim_evidence`, `vrp_evidence`, `evidence`: the details of a fault that its line
-//!   shows
+//! - `formats`: the formats, and the words that name them
+//! - `instance`: the reader of texts in any format
+//! - `number_evidence`, `lilim_evidence`, `solomon_evidence`, `vrp_evidence`, `evidence`: the details of a fault
+//!   that its line shows
 //! - `laws`: what the lines of a `.vrp` text are, that every text is read, and what evidence shows
 //!
 //! Proved: each reader returns exactly the problem that the text spells, or else the first fault by class, line
@@ -50,6 +51,7 @@ mod evidence;
 mod faults;
 mod field_limits;
 mod fields;
+mod formats;
 mod instance;
 mod laws;
 mod lilim;
@@ -60,6 +62,7 @@ mod put;
 mod rows;
 mod singles;
 mod solomon;
+mod solomon_evidence;
 mod tasks;
 mod vrp;
 mod vrp_draft;
@@ -68,10 +71,11 @@ mod vrp_fields;
 mod vrp_lines;
 mod vrp_problem;
 
-pub use evidence::{Evidence, Excerpt, Field, evidence_of};
+pub use evidence::{Evidence, Excerpt, Field, SolomonLine, evidence_of};
 pub use faults::{ReadFault, ReadFaultKind};
 pub use field_limits::Limits;
 pub use fields::has_no_number;
+pub use formats::{Format, Layout};
 pub use instance::read_instance;
 pub use laws::{
     depots_are_two_words, eof_is_the_end, every_text_has_one_reading, evidence_shows_the_word,

@@ -7,6 +7,7 @@ pub mod LilimLemmas
 pub mod LineLemmas
 pub mod LookupLemmas
 pub mod PlacedLemmas
+pub mod SolomonLemmas
 pub mod ReadBack
 pub mod SectionLemmas
 pub mod TaskLemmas

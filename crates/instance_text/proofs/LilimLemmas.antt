@@ -25,7 +25,7 @@ use Rattle.instance_read.specs.Tables.{ArePaired}
 use Rattle.instance_read.specs.TaskFaults.{HasNoKind, HasNoTaskFault}
 use Rattle.instance_read.proofs.LilimLemmas.{has_none}
 use Rattle.instance_read.proofs.TaskFaultLemmas.{step_none}
-use Rattle.instance_text.specs.Formats.{is_pair, is_expressible}
+use Rattle.instance_text.specs.Formats.{are_pairs, is_pair}
 use Rattle.instance_text.specs.ReadBack.{last_number as last_stop, last_of, read_by}
 use Rattle.instance_text.specs.Texts.{header_line, lilim_lines, lines_text, named_delivery, named_pickup, row_line, row_of, stops_from}
 use Rattle.instance_text.specs.declared.stops.StopLine.TheVariants as row
@@ -41,7 +41,7 @@ not_beyond least most z low high =
     (false_from_ne_true (int_lt z least) (λ h. grind (arith, ints, low, h)))
     (false_from_ne_true (int_lt most z) (λ h. grind (arith, ints, high, h)))
 
-not_above : (most n : ℕ) → n ≤ most → int_lt (pos most) (pos n) ≡ false
+pub not_above : (most n : ℕ) → n ≤ most → int_lt (pos most) (pos n) ≡ false
 not_above most n le = le-ltb most n le
 
 pub not_beyond_zero : (most n : ℕ) → n ≤ most → is_beyond (pos 0, pos most) (pos n) ≡ false
@@ -335,7 +335,7 @@ module _ (p : Instance) (valid : IsInstance p) where
       sym problem_is,
     )
 
-pub lilim_read_back : (p : Instance) → IsInstance p → p.kind ≡ LiLim → is_expressible LiLim p ≡ true → SpellsLilim (lines_text (lilim_lines p)) (read_by LiLim p)
+pub lilim_read_back : (p : Instance) → IsInstance p → p.kind ≡ LiLim → are_pairs p.requests ≡ true → SpellsLilim (lines_text (lilim_lines p)) (read_by LiLim p)
 lilim_read_back p valid kind said =
     let whole : Kind → Instance = λ k. record { kind = k; depot = p.depot; capacity = p.capacity; fleet = p.fleet; requests = p.requests; next_number = last_stop p + 1 } in
     subst (λ k. SpellsLilim (lines_text (lilim_lines p)) (whole k)) (sym kind) (spelled p valid said)

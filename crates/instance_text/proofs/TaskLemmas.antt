@@ -25,6 +25,17 @@ use Rattle.instance_text.proofs.LookupLemmas.{IsPairIn, Place, place_at}
 some_same : {X : Type 0} {x y : X} → Some x ≡ Some y → x ≡ y
 some_same h = cc
 
+-- the names of requests are among the numbers below the next one
+pub named_within : (next : ℕ) (es : List (ℕ × Request)) → AllByRecursion (λ e. e.0 ≡ request_name e.1) es → AllByRecursion (λ e. IsRequest e.1) es
+    → AllByRecursion (λ e. NumbersBelow next e.1) es → AreNamedWithin 1 (next - 1) es
+unfolding NumbersBelow
+named_within next [] named requests below = tt
+named_within next (e ∷ es) named requests below = (by e.1 named.0 requests.0 below.0, named_within next es named.1 requests.1 below.1)
+  where
+    by : (r : Request) → e.0 ≡ request_name r → IsRequest r → NumbersBelow next r → (1 ≤ e.0) × (e.0 < 1 + (next - 1))
+    by (Single s) is request less = (omega (arith, is, request.0.from_one), omega (arith, is, less))
+    by (Pair a b) is request less = (omega (arith, is, request.0.from_one), omega (arith, is, less.0))
+
 -- the tasks of the stops, on the lines from this one on
 module _ (p : Instance) where
   abbrev pub task : ℕ → Stop → Task
@@ -179,18 +190,8 @@ module _ (p : Instance) (valid : IsInstance p) where
               ap (λ o. cons_option o (filter_map (pair_of all_tasks) (tasks_from p (line + 1) (stops_from p (m + 1) count)))) (entry_at m line s e (place_at p valid pairs m))
               ∙ ap (cons_option (entry_named p.requests m)) (others (line + 1))
 
-      named_within : (es : List (ℕ × Request)) → AllByRecursion (λ e. e.0 ≡ request_name e.1) es → AllByRecursion (λ e. IsRequest e.1) es
-          → AllByRecursion (λ e. NumbersBelow p.next_number e.1) es → AreNamedWithin 1 (p.next_number - 1) es
-      unfolding NumbersBelow
-      named_within [] named requests below = tt
-      named_within (e ∷ es) named requests below = (by e.1 named.0 requests.0 below.0, named_within es named.1 requests.1 below.1)
-        where
-          by : (r : Request) → e.0 ≡ request_name r → IsRequest r → NumbersBelow p.next_number r → (1 ≤ e.0) × (e.0 < 1 + (p.next_number - 1))
-          by (Single s) is request less = (omega (arith, is, request.0.from_one), omega (arith, is, less))
-          by (Pair a b) is request less = (omega (arith, is, request.0.from_one), omega (arith, is, less.0))
-
       pub pairs_are : pairs_of all_tasks ≡ p.requests
       pairs_are =
           pairs_named first 1 (p.next_number - 1)
           ∙ entries_named p.requests 1 (p.next_number - 1) valid.ascending
-          (named_within p.requests valid.named valid.valid (below-each p.next_number p.requests valid.above))
+          (named_within p.next_number p.requests valid.named valid.valid (below-each p.next_number p.requests valid.above))

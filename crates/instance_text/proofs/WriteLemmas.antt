@@ -62,3 +62,12 @@ parts_joined a b c d s t u v first second third fourth =
     ∙ append_assoc (lines_text a ++ lines_text b) (lines_text c) (lines_text d)
     ∙ append_assoc (lines_text a) (lines_text b) (lines_text c ++ lines_text d)
     ∙ sym whole
+
+-- a text of three parts, too
+pub three_joined : (a b c : List (List ℕ)) (s t u : List ℕ) → s ≡ lines_text a → t ≡ s ++ lines_text b → u ≡ t ++ lines_text c → u ≡ lines_text (a ++ (b ++ c))
+three_joined a b c s t u first second third =
+    let join : (xs ys : List (List ℕ)) → lines_text (xs ++ ys) ≡ lines_text xs ++ lines_text ys = flat_map-append (λ l. l ++ 10 ∷ []) in
+    third
+    ∙ ap (λ x. x ++ lines_text c) (second ∙ ap (λ x. x ++ lines_text b) first)
+    ∙ append_assoc (lines_text a) (lines_text b) (lines_text c)
+    ∙ sym (join a (b ++ c) ∙ ap (λ x. lines_text a ++ x) (join b c))

@@ -5,7 +5,7 @@ use Rattle.plan_types.specs.declared.requests.Kind.{Kind}
 use Rattle.plan_types.specs.declared.requests.Kind.TheVariants.{LiLim, Vrp}
 use Rattle.plan_types.specs.declared.requests.Stop.{Stop}
 use Rattle.instance_read.specs.Readings.{SpellsInstance}
-use Rattle.instance_text.specs.Formats.{has_format}
+use Rattle.instance_text.specs.Formats.{has_format, text_format}
 use Rattle.instance_text.specs.Texts.{instance_text, stops_from}
 
 -- the number of the last of these stops
@@ -28,4 +28,4 @@ as_read p = read_by p.kind p
 
 -- law: if the format can express a problem, its text spells the problem
 abbrev pub TextsAreReadBack : Type 0
-TextsAreReadBack = (p : Instance) → IsInstance p → has_format p ≡ true → SpellsInstance p.kind (instance_text p) (as_read p)
+TextsAreReadBack = (p : Instance) → IsInstance p → has_format p ≡ true → SpellsInstance (text_format p) (instance_text p) (as_read p)

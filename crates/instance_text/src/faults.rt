@@ -7,7 +7,7 @@ use thiserror::Error;
 /// The reason why a problem is not written.
 #[derive(Clone, Copy, Debug, PartialEq, Eq, Error)]
 pub enum WriteFault {
-    /// The format for this kind can't express one of the requests, or the depot.
+    /// The format of its text can't express one of the requests, or the depot.
     #[error("the format of its kind can't say the problem")]
     NoFormat,
     #[error("out of memory")]

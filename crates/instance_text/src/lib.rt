@@ -1,16 +1,17 @@
-//! Writes a problem as an instance file that other programs read: Li and Lim's format, or a `.vrp` file of
-//! CVRPLIB.
+//! Writes a problem as an instance file that other programs read: Li and Lim's format, Solomon's, or a `.vrp`
+//! file of CVRPLIB.
 //!
 //! The entry point is `write_instance`. It writes the problem as it is now, after requests were added and
 //! withdrawn. `instance_read` reads the text back.
 //!
-//! Sources: as for `instance_read`. A Li-Lim text has the stops under their own numbers, so gaps between the
-//! numbers stay. A `.vrp` text cannot express time windows, services and gaps, so a problem that has them is
+//! Sources: as for `instance_read`. A text with time windows has the stops under their own numbers, so gaps
+//! between the numbers stay. A problem of pairs is a Li-Lim text, one of single stops a text in Solomon's format,
+//! and one that has both is refused. A `.vrp` text cannot express time windows, services and gaps, so a problem that has them is
 //! refused. The fleet is not part of a `.vrp` text.
 //!
 //! Modules, in reading order:
 //! - `faults`: the reasons why a problem is not written
-//! - `formats`: the problems that each format can express
+//! - `formats`: the format of a problem's text, and the problems that it can express
 //! - `lines`: one line
 //! - `stops`: the lines of all stops, in ascending order of number
 //! - `write`: the writer
@@ -30,6 +31,6 @@ mod stops;
 mod write;
 
 pub use faults::WriteFault;
-pub use formats::has_format;
+pub use formats::{has_format, text_format};
 pub use laws::texts_are_read_back;
 pub use write::write_instance;

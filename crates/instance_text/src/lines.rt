@@ -8,7 +8,7 @@ ghost use Rattle.instance_text.specs.Texts.{heading_text, key_line, numbers_text
 use itoa::{Buffer, Integer};
 use std::alloc::AllocError;
 
-/// The fixed parts of a `.vrp` text: whole lines, and the keys of two numbers.
+/// The fixed parts of a `.vrp` text and of one in Solomon's format: whole lines, and the keys of two numbers.
 #[derive(Clone, Copy)]
 pub(crate) enum Heading {
     Name,
@@ -20,6 +20,12 @@ pub(crate) enum Heading {
     Demands,
     Depots,
     End,
+    Title,
+    Blank,
+    Vehicles,
+    Amounts,
+    Customers,
+    Columns,
 }
 
 impl Heading {
@@ -37,6 +43,12 @@ impl Heading {
             Heading::Demands => b"DEMAND_SECTION",
             Heading::Depots => b"DEPOT_SECTION",
             Heading::End => b"EOF",
+            Heading::Title => b"planner",
+            Heading::Blank => b"",
+            Heading::Vehicles => b"VEHICLE",
+            Heading::Amounts => b"NUMBER CAPACITY",
+            Heading::Customers => b"CUSTOMER",
+            Heading::Columns => b"CUST NO. XCOORD. YCOORD. DEMAND READY TIME DUE DATE SERVICE TIME",
         }
     }
 }

@@ -3,7 +3,7 @@ ghost use Rattle.std.specs.Prelude.{◌≡◌, ◌++◌, ◌≤◌, ◌-◌, ℕ
 ghost use Rattle.std.specs.Option.{option_map_or};
 ghost use Rattle.text_lines.specs.Lines.{with_line_feed};
 ghost use Rattle.plan_types.specs.Instance.{stop_at};
-ghost use Rattle.instance_text.specs.Texts.{lines_text, named_delivery, named_pickup, row_line, stops_from, visits};
+ghost use Rattle.instance_text.specs.Texts.{customer_line, lines_text, named_delivery, named_pickup, row_line, stops_from, visits};
 
 use crate::lines::put_line;
 use plan_types::{Problem, Stop};
@@ -14,6 +14,8 @@ use std::alloc::AllocError;
 pub(crate) enum StopLine {
     /// A task with all fields of the stop, in Li and Lim's format.
     Task,
+    /// The same without the other stop of its pair, in Solomon's format.
+    Customer,
     /// The coordinates of a node, in CVRPLIB's format.
     Node,
     Demand,
@@ -71,6 +73,7 @@ fn put_stop(
 {
     match row {
         StopLine::Task => put_task(text, problem, stop),
+        StopLine::Customer => put_customer(text, stop),
         StopLine::Node => put_line(
             text,
             &[
@@ -99,6 +102,24 @@ fn put_task(text: &mut Vec<u8>, problem: &Problem, stop: &Stop) -> Result<(), Al
             i64::from(stop.service),
             i64::from(named_pickup(problem, stop.number)),
             i64::from(named_delivery(problem, stop.number)),
+        ],
+    )
+}
+
+fn put_customer(text: &mut Vec<u8>, stop: &Stop) -> Result<(), AllocError>
+    ensures { OnOk result (text.new.items
+        ≡ text.old.items ++ with_line_feed (customer_line stop.now)) }
+{
+    put_line(
+        text,
+        &[
+            i64::from(stop.number),
+            i64::from(stop.x),
+            i64::from(stop.y),
+            i64::from(stop.demand),
+            i64::from(stop.earliest),
+            i64::from(stop.latest),
+            i64::from(stop.service),
         ],
     )
 }

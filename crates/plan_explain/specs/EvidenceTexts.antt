@@ -10,11 +10,12 @@ use Rattle.instance_read.specs.declared.faults.ReadFaultKind.{ReadFaultKind}
 use Rattle.instance_read.specs.declared.faults.ReadFaultKind.TheVariants.{BadNumber, Range, TooManyStops}
 use Rattle.instance_read.specs.declared.vrp_lines.Key.{Key}
 use Rattle.plan_explain.specs.Quotes.{is_fraction, shown_bytes}
-use Rattle.plan_explain.specs.Templates.{field_name, form, key_name, required_value, text_if}
+use Rattle.plan_explain.specs.Templates.{field_name, form, key_name, line_name, required_value, text_if}
 
 -- the wrong number; the text of the kind already has the limit
 abbrev pub too_many_text : List ℕ → Field → List ℕ
 too_many_text word fields.Number = form (codes ": task @") (shown_bytes word ∷ [])
+too_many_text word fields.Customer = form (codes ": customer @") (shown_bytes word ∷ [])
 too_many_text word field = form (codes ": @ is @") (field_name field ∷ shown_bytes word ∷ [])
 
 -- why a word is wrong: its fraction, or its limits
@@ -66,6 +67,14 @@ pair_text (found.Demands field n line demand own is_negative) =
     form (demand_fault_text is_negative) (field_name field ∷ decimal n ∷ decimal line ∷ shown_bytes demand ∷ shown_bytes own ∷ [])
 pair_text evidence = key_text evidence
 
+-- the details of a line in Solomon's format
+abbrev pub customer_text : Evidence → List ℕ
+customer_text (found.FirstCustomer n) = form (codes ": the first is customer @") (shown_bytes n ∷ [])
+customer_text (found.CustomerOutOfOrder n before) = form (codes ": customer @ follows customer @") (shown_bytes n ∷ shown_bytes before ∷ [])
+customer_text (found.WrongWord line word) = form (codes ": it is @, the word must be @") (shown_bytes word ∷ line_name line ∷ [])
+customer_text (found.MissingLine line) = form (codes ": the line with @ is missing") (line_name line ∷ [])
+customer_text evidence = pair_text evidence
+
 -- the details of an instance's fault of this kind
 abbrev pub evidence_text : ReadFaultKind → Evidence → List ℕ
 evidence_text kind (found.Count due n) = form (codes ": @ due, @ found") (decimal due ∷ decimal n ∷ [])
@@ -75,4 +84,4 @@ evidence_text kind (found.TaskOutOfOrder n before) = form (codes ": task @ stand
 evidence_text kind (found.Window earliest latest) = form (codes ": it begins at @ and ends at @") (shown_bytes earliest ∷ shown_bytes latest ∷ [])
 evidence_text kind found.NoHeader = codes ": the first line, of fleet, capacity and speed, is missing"
 evidence_text kind found.NoDepot = codes ": task 0, the depot, is missing"
-evidence_text kind evidence = pair_text evidence
+evidence_text kind evidence = customer_text evidence

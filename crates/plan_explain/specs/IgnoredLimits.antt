@@ -2,8 +2,9 @@
 use Rattle.std.specs.Prelude.{ℕ, ◌+◌, ◌||◌, Bool, List, [], ◌∷◌, codes, Option, Some, None, if◌then◌else◌}
 use Rattle.std.specs.Str.{str_eq_ignore_ascii_case}
 use Rattle.instance_read.specs.VrpLines.{key_text}
-use Rattle.plan_types.specs.declared.requests.Kind.{Kind}
-use Rattle.plan_types.specs.declared.requests.Kind.TheVariants.{LiLim, Vrp}
+use Rattle.instance_read.specs.declared.formats.Format.{Format}
+use Rattle.instance_read.specs.declared.formats.Layout.{Layout}
+use Rattle.instance_read.specs.declared.formats.Layout.TheVariants.{LiLim, Solomon, Vrp}
 use Rattle.text_lines.specs.Lines.{lines_of}
 use Rattle.plan_explain.specs.Quotes.{is_key}
 
@@ -21,7 +22,11 @@ abbrev pub limit_from : ℕ → List (List ℕ) → Option ℕ
 limit_from n [] = None
 limit_from n (line ∷ lines) = if is_key (codes "EOF") line then None else if is_limit (key_text line) then Some n else limit_from (n + 1) lines
 
--- the number of the first line whose key is a limit, in an instance of this kind
-abbrev pub ignored_limit_line : Kind → List ℕ → Option ℕ
-ignored_limit_line LiLim text = None
-ignored_limit_line Vrp text = limit_from 1 (lines_of text)
+abbrev pub limit_line_of : Layout → List ℕ → Option ℕ
+limit_line_of LiLim text = None
+limit_line_of Solomon text = None
+limit_line_of Vrp text = limit_from 1 (lines_of text)
+
+-- the number of the first line whose key is a limit, in an instance in this format
+abbrev pub ignored_limit_line : Format → List ℕ → Option ℕ
+ignored_limit_line format text = limit_line_of format.layout text

@@ -1,17 +1,18 @@
 -- The text for a refused file: the sentence on its fault, the line that the fault names, and notes on the whole
 -- file.
-use Rattle.std.specs.Prelude.{ℕ, ◌==◌, ◌&&◌, ◌||◌, not, Bool, false, List, [], ◌∷◌, ◌++◌, length, codes, Option, Some, None, decimal}
+use Rattle.std.specs.Prelude.{ℕ, ◌==◌, ◌&&◌, ◌||◌, not, Bool, false, List, [], ◌∷◌, ◌++◌, length, codes, Option, Some, None, decimal, if◌then◌else◌}
 use Rattle.std.specs.List.{list_any}
 use Rattle.text_lines.specs.Lines.{lines_of}
 use Rattle.text_lines.specs.Words.{words_of}
-use Rattle.plan_types.specs.declared.requests.Kind.{Kind}
-use Rattle.plan_types.specs.declared.requests.Kind.TheVariants.{LiLim, Vrp}
 use Rattle.plan_audit.specs.Rules.{item_at}
 use Rattle.instance_read.specs.Evidence.{evidence_of}
 use Rattle.instance_read.specs.Fields.{has_no_number}
 use Rattle.instance_read.specs.declared.faults.ReadFault.{ReadFault}
 use Rattle.instance_read.specs.declared.faults.ReadFaultKind.{ReadFaultKind}
 use Rattle.instance_read.specs.declared.faults.ReadFaultKind.TheVariants as faults
+use Rattle.instance_read.specs.declared.formats.Format.{Format}
+use Rattle.instance_read.specs.declared.formats.Layout.{Layout}
+use Rattle.instance_read.specs.declared.formats.Layout.TheVariants.{LiLim, Solomon, Vrp}
 use Rattle.sol_text.specs.declared.faults.SolFault.{SolFault}
 use Rattle.sol_text.specs.declared.faults.SolFaultKind.{SolFaultKind}
 use Rattle.sol_text.specs.declared.faults.SolFaultKind.TheVariants as sol_faults
@@ -20,32 +21,45 @@ use Rattle.plan_explain.specs.EvidenceTexts.{evidence_text}
 use Rattle.plan_explain.specs.Templates.{form, text_if}
 use Rattle.plan_explain.specs.SolFaults.{sol_detail}
 
--- the words for a task with a number above the greatest allowed, or for a DIMENSION that announces too many
--- nodes
-unfoldable pub too_many : Kind → List ℕ
+-- the words for a task or a customer with a number above the greatest allowed, or for a DIMENSION that announces
+-- too many nodes
+unfoldable pub too_many : Layout → List ℕ
 too_many LiLim = codes "a task has a number above 40000"
+too_many Solomon = codes "a customer has a number above 40000"
 too_many Vrp = codes "there are more nodes than 40001"
 
--- the description of a fault of an instance of this kind
-unfoldable pub instance_reason : Kind → ReadFaultKind → List ℕ
-instance_reason kind faults.BadNumber = codes "a word is not a whole number"
-instance_reason kind faults.Range = codes "a number is outside its limits"
-instance_reason kind faults.FieldCount = codes "the number of words is wrong"
-instance_reason kind faults.TaskOrder = codes "task numbers do not rise from 0"
-instance_reason kind faults.PairMismatch = codes "a task is no half of a pair"
-instance_reason kind faults.EmptyWindow = codes "a window ends before it begins"
-instance_reason kind faults.TooManyStops = too_many kind
-instance_reason kind faults.MissingKey = codes "a key or a section is missing"
-instance_reason kind faults.Unsupported = codes "the key or its value is not supported"
-instance_reason kind faults.DepotNotFirst = codes "the list of depots is not 1 and then -1"
-instance_reason kind faults.NodeRepeated = codes "a node, a key or a section stands twice"
-instance_reason kind faults.Truncated = codes "the text ends early"
-instance_reason kind faults.OutOfMemory = codes "out of memory"
+-- the words for numbers that are out of order
+unfoldable pub out_of_order : Layout → List ℕ
+out_of_order LiLim = codes "task numbers do not rise from 0"
+out_of_order Solomon = codes "customer numbers do not rise from 0"
+out_of_order Vrp = codes "task numbers do not rise from 0"
+
+-- the words for a line that is missing
+unfoldable pub missing_line : Layout → List ℕ
+missing_line LiLim = codes "a key or a section is missing"
+missing_line Solomon = codes "the line begins with the wrong word"
+missing_line Vrp = codes "a key or a section is missing"
+
+-- the description of a fault of an instance with this layout
+unfoldable pub instance_reason : Layout → ReadFaultKind → List ℕ
+instance_reason layout faults.BadNumber = codes "a word is not a whole number"
+instance_reason layout faults.Range = codes "a number is outside its limits"
+instance_reason layout faults.FieldCount = codes "the number of words is wrong"
+instance_reason layout faults.TaskOrder = out_of_order layout
+instance_reason layout faults.PairMismatch = codes "a task is no half of a pair"
+instance_reason layout faults.EmptyWindow = codes "a window ends before it begins"
+instance_reason layout faults.TooManyStops = too_many layout
+instance_reason layout faults.MissingKey = missing_line layout
+instance_reason layout faults.Unsupported = codes "the key or its value is not supported"
+instance_reason layout faults.DepotNotFirst = codes "the list of depots is not 1 and then -1"
+instance_reason layout faults.NodeRepeated = codes "a node, a key or a section stands twice"
+instance_reason layout faults.Truncated = codes "the text ends early"
+instance_reason layout faults.OutOfMemory = codes "out of memory"
 
 -- the sentence on the fault, with the details of the line that it names
-abbrev pub instance_sentence : Kind → List ℕ → ReadFault → List ℕ
-instance_sentence kind text fault =
-    form (codes "line @: ") (decimal fault.line ∷ []) ++ instance_reason kind fault.kind ++ evidence_text fault.kind (evidence_of kind text fault)
+abbrev pub instance_sentence : Format → List ℕ → ReadFault → List ℕ
+instance_sentence format text fault =
+    form (codes "line @: ") (decimal fault.line ∷ []) ++ instance_reason format.layout fault.kind ++ evidence_text fault.kind (evidence_of format text fault)
 
 unfoldable pub solution_reason : SolFaultKind → List ℕ
 solution_reason sol_faults.BadLine = codes "this is no route line, and no cost line with one word"
@@ -82,14 +96,22 @@ is_vrp_line line = is_key (codes "DIMENSION") line || is_key (codes "NODE_COORD_
 abbrev pub has_nine_numbers : List ℕ → Bool
 has_nine_numbers line = length (words_of line) == 9 && not (has_no_number (words_of line))
 
--- a note if an instance that is read as this kind looks like the other kind
-abbrev pub kind_note : Kind → List ℕ → List ℕ
-kind_note LiLim text = text_if (codes "the text looks like a .vrp instance, and is read as lilim\n") (list_any is_vrp_line (lines_of text))
-kind_note Vrp text = text_if (codes "the text looks like a Li-Lim instance, and is read as vrp\n") (list_any has_nine_numbers (lines_of text))
+-- a note if an instance that is read in Solomon's format looks as if it had another one
+abbrev pub solomon_note : List ℕ → List ℕ
+solomon_note text =
+    if list_any is_vrp_line (lines_of text) then codes "the text looks like a .vrp instance, and is read as solomon\n"
+    else text_if (codes "the text looks like a Li-Lim instance, and is read as solomon\n") (list_any has_nine_numbers (lines_of text))
 
--- the text for an instance that was read as this kind and has this fault
-abbrev pub instance_fault_text : Kind → List ℕ → ReadFault → List ℕ
-instance_fault_text kind text fault = instance_sentence kind text fault ++ under_sentence text fault.line ++ bom_note text ++ kind_note kind text
+-- a note if an instance that is read with this layout looks as if it had another one
+abbrev pub layout_note : Layout → List ℕ → List ℕ
+layout_note LiLim text = text_if (codes "the text looks like a .vrp instance, and is read as lilim\n") (list_any is_vrp_line (lines_of text))
+layout_note Solomon text = solomon_note text
+layout_note Vrp text = text_if (codes "the text looks like a Li-Lim instance, and is read as vrp\n") (list_any has_nine_numbers (lines_of text))
+
+-- the text for an instance that was read in this format and has this fault
+abbrev pub instance_fault_text : Format → List ℕ → ReadFault → List ℕ
+instance_fault_text format text fault =
+    instance_sentence format text fault ++ under_sentence text fault.line ++ bom_note text ++ layout_note format.layout text
 
 -- the text for a solution with this fault
 abbrev pub solution_fault_text : List ℕ → SolFault → List ℕ

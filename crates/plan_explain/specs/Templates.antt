@@ -4,6 +4,8 @@ use Rattle.std.specs.Fmt.{signed_decimal}
 use Rattle.std.specs.Option.{option_copied}
 use Rattle.instance_read.specs.declared.evidence.Field.{Field}
 use Rattle.instance_read.specs.declared.evidence.Field.TheVariants as fields
+use Rattle.instance_read.specs.declared.evidence.SolomonLine.{SolomonLine}
+use Rattle.instance_read.specs.declared.evidence.SolomonLine.TheVariants as lines
 use Rattle.instance_read.specs.declared.vrp_lines.Key.{Key}
 use Rattle.instance_read.specs.declared.vrp_lines.Key.TheVariants as keys
 use Rattle.plan_types.specs.declared.requests.Stop.{Stop}
@@ -11,7 +13,7 @@ use Rattle.rule_violations.specs.declared.positions.StopPosition.{StopPosition}
 use Rattle.text_buffer.specs.Columns.{left as at_left, right, right_signed}
 use Rattle.plan_explain.specs.Quotes.{shown_bytes}
 use Rattle.plan_explain.specs.declared.templates.Value.{Value}
-use Rattle.plan_explain.specs.declared.templates.Value.TheVariants.{At, Quote, Demand, KeyName, Left, Long, Name, RequiredValue, Number, Right, RightLong, RightSigned, Short, Signed, TextIf}
+use Rattle.plan_explain.specs.declared.templates.Value.TheVariants.{At, Quote, Demand, KeyName, Left, LineName, Long, Name, RequiredValue, Number, Right, RightLong, RightSigned, Short, Signed, TextIf}
 
 abbrev pub text_if : List ℕ → Bool → List ℕ
 text_if words holds = if holds then words else []
@@ -41,11 +43,14 @@ field_name fields.Fleet = codes "fleet"
 field_name fields.Capacity = codes "capacity"
 field_name fields.Speed = codes "speed"
 field_name fields.Number = codes "number"
+field_name fields.Customer = codes "number"
 field_name fields.X = codes "x"
 field_name fields.Y = codes "y"
 field_name fields.Demand = codes "demand"
 field_name fields.Earliest = codes "earliest"
 field_name fields.Latest = codes "latest"
+field_name fields.Ready = codes "ready"
+field_name fields.Due = codes "due"
 field_name fields.Service = codes "service"
 field_name fields.Pickup = codes "pickup"
 field_name fields.Delivery = codes "delivery"
@@ -53,6 +58,17 @@ field_name fields.Node = codes "node"
 field_name fields.Depot = codes "depot"
 field_name (fields.Value key) = key_name key
 field_name fields.ExtraWord = codes "a word"
+
+-- the name of a line in Solomon's format: the word with which it begins, or what it has
+unfoldable pub line_name : SolomonLine → List ℕ
+line_name lines.Name = codes "the name"
+line_name lines.Vehicle = codes "VEHICLE"
+line_name lines.Number = codes "NUMBER"
+line_name lines.Fleet = codes "fleet and capacity"
+line_name lines.Customers = codes "CUSTOMER"
+line_name lines.Columns = codes "CUST"
+line_name lines.Depot = codes "customer 0, the depot,"
+line_name lines.Customer = codes "customer 0, the depot,"
 
 -- the value that a key must have
 unfoldable pub required_value : Key → List ℕ
@@ -73,6 +89,7 @@ value_text (At seat) = position_text seat
 value_text (Quote bytes) = shown_bytes bytes.now
 value_text (Name field) = field_name field
 value_text (KeyName key) = key_name key
+value_text (LineName line) = line_name line
 value_text (RequiredValue key) = required_value key
 value_text (Demand stop) = demand_text (option_copied stop)
 

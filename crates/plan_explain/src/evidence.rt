@@ -1,9 +1,9 @@
 //! The details of an instance's fault, printed after its kind.
 ghost use Rattle.std.specs.Prelude.{◌≡◌, ◌++◌};
-ghost use Rattle.plan_explain.specs.EvidenceTexts.{demand_fault_text, evidence_text, key_text, too_many_text, missing_text, pair_text, reason_text, word_text};
+ghost use Rattle.plan_explain.specs.EvidenceTexts.{customer_text, demand_fault_text, evidence_text, key_text, too_many_text, missing_text, pair_text, reason_text, word_text};
 
 use crate::quotes::is_fraction;
-use crate::templates::Value::{KeyName, Name, Number, Quote, RequiredValue, Signed};
+use crate::templates::Value::{KeyName, LineName, Name, Number, Quote, RequiredValue, Signed};
 use crate::templates::{put_if, put_template};
 use instance_read::{Evidence, Field, Key, Limits, ReadFaultKind};
 use text_buffer::TextBuffer;
@@ -39,6 +39,33 @@ pub(crate) fn put_evidence(text: &mut TextBuffer, kind: ReadFaultKind, evidence:
             ": the first line, of fleet, capacity and speed, is missing",
         ),
         Evidence::NoDepot => text.push_str(": task 0, the depot, is missing"),
+        other => put_customer(text, other),
+    }
+}
+
+// Appends the details of a line in Solomon's format.
+fn put_customer(text: &mut TextBuffer, evidence: Evidence<'_>)
+    ensures { text.new ≡ text.old ++ customer_text evidence.entry }
+{
+    match evidence {
+        Evidence::FirstCustomer(customer) => put_template(
+            text,
+            ": the first is customer @",
+            &[Quote(customer.bytes())],
+        ),
+        Evidence::CustomerOutOfOrder { customer, before } => {
+            let customers = [Quote(customer.bytes()), Quote(before.bytes())];
+            put_template(text, ": customer @ follows customer @", &customers)
+        }
+        Evidence::WrongWord(line, word) => {
+            let words = [Quote(word.bytes()), LineName(line)];
+            put_template(text, ": it is @, the word must be @", &words)
+        }
+        Evidence::MissingLine(line) => put_template(
+            text,
+            ": the line with @ is missing",
+            &[LineName(line)],
+        ),
         other => put_pair(text, other),
     }
 }
@@ -81,6 +108,7 @@ fn put_too_many(text: &mut TextBuffer, field: Field, word: &[u8])
 {
     match field {
         Field::Number => put_template(text, ": task @", &[Quote(word)]),
+        Field::Customer => put_template(text, ": customer @", &[Quote(word)]),
         _ => put_template(text, ": @ is @", &[Name(field), Quote(word)]),
     }
 }

@@ -6,20 +6,19 @@ ghost use Rattle.plan_explain.specs.AfterCost.{ReadingEndsAtCost, ReportedLineIs
 ghost use Rattle.plan_explain.specs.IgnoredLimits.{is_limit, limit_from, ignored_limit_line};
 
 use crate::quotes::is_key;
-use instance_read::split_key;
-use plan_types::Kind;
+use instance_read::{Format, Layout, split_key};
 use sol_text::cost_word;
 use text_lines::{Lines, is_blank_line};
 
 /// Returns the number of the first line whose key names a limit that this project ignores: on vehicles, or on
-/// the length of a route. Lines count from 1. Returns `None` for a Li-Lim instance, which has no keys. Source:
-/// keys of LKH, and of extensions of TSPLIB.
-pub fn ignored_limit_line(kind: Kind, text: &[u8]) -> Option<u64>
-    ensures { result ≡ ignored_limit_line kind text.now }
+/// the length of a route. Lines count from 1. Returns `None` for a Li-Lim instance and for one in
+/// Solomon's format, which have no keys. Source: keys of LKH, and of extensions of TSPLIB.
+pub fn ignored_limit_line(format: Format, text: &[u8]) -> Option<u64>
+    ensures { result ≡ ignored_limit_line format text.now }
 {
-    match kind {
-        Kind::LiLim => None,
-        Kind::Vrp => first_limit(text),
+    match format.layout {
+        Layout::LiLim | Layout::Solomon => None,
+        Layout::Vrp => first_limit(text),
     }
 }
 

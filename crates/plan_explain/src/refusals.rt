@@ -3,38 +3,38 @@
 ghost use Rattle.std.specs.Prelude.{◌≡◌, ◌++◌, IfOk, string_bytes};
 ghost use Rattle.std.specs.List.{list_any};
 ghost use Rattle.text_lines.specs.Lines.{lines_of};
-ghost use Rattle.plan_explain.specs.Refusals.{has_nine_numbers, instance_fault_text, instance_reason, instance_sentence, is_vrp_line, kind_note, bom_note, solution_fault_text, solution_reason, solution_sentence, too_many, under_sentence};
+ghost use Rattle.plan_explain.specs.Refusals.{bom_note, has_nine_numbers, instance_fault_text, instance_reason, instance_sentence, is_vrp_line, layout_note, missing_line, out_of_order, solomon_note, solution_fault_text, solution_reason, solution_sentence, too_many, under_sentence};
 
 use crate::evidence::put_evidence;
 use crate::quotes::{is_key, line_at};
 use crate::sol_faults::put_sol_detail;
 use crate::templates::Value::{Number, Quote};
 use crate::templates::{put_if, put_template};
-use instance_read::{ReadFault, ReadFaultKind, evidence_of, has_no_number};
-use plan_types::{Kind, OutOfMemory};
+use instance_read::{Format, Layout, ReadFault, ReadFaultKind, evidence_of, has_no_number};
+use plan_types::OutOfMemory;
 use sol_text::{SolFault, SolFaultKind};
 use std::alloc::Global;
 use text_buffer::TextBuffer;
 use text_lines::{Lines, word_count};
 
-/// Returns the sentence on a fault of an instance that was read as this kind. Below it is the line that the
+/// Returns the sentence on a fault of an instance that was read in this format. Below it is the line that the
 /// fault names, if the file has that line: its first 200 bytes, with `?` for each byte that is neither
 /// printable ASCII nor a tab. Notes follow if the file begins with a byte order mark, or looks like an instance
-/// of the other kind.
+/// in another format.
 pub fn explain_instance_fault(
     alloc: Global,
-    kind: Kind,
+    format: Format,
     text: &[u8],
     fault: ReadFault,
 ) -> Result<String, OutOfMemory>
     ensures { IfOk result (λ answer. string_bytes answer
-        ≡ instance_fault_text kind text.now fault) }
+        ≡ instance_fault_text format text.now fault) }
 {
     let mut answer = TextBuffer::new(alloc);
-    put_instance_sentence(&mut answer, kind, text, fault);
+    put_instance_sentence(&mut answer, format, text, fault);
     put_line_under(&mut answer, text, fault.line);
     put_bom_note(&mut answer, text);
-    put_kind_note(&mut answer, kind, text);
+    put_layout_note(&mut answer, format.layout, text);
     answer.into_string()
 }
 
@@ -54,27 +54,27 @@ pub fn explain_solution_fault(
     answer.into_string()
 }
 
-fn put_instance_sentence(answer: &mut TextBuffer, kind: Kind, text: &[u8], fault: ReadFault)
-    ensures { answer.new ≡ answer.old ++ instance_sentence kind text.now fault }
+fn put_instance_sentence(answer: &mut TextBuffer, format: Format, text: &[u8], fault: ReadFault)
+    ensures { answer.new ≡ answer.old ++ instance_sentence format text.now fault }
 {
     put_template(answer, "line @: ", &[Number(fault.line)]);
-    answer.push_str(instance_reason(kind, fault.kind));
-    put_evidence(answer, fault.kind, evidence_of(kind, text, fault));
+    answer.push_str(instance_reason(format.layout, fault.kind));
+    put_evidence(answer, fault.kind, evidence_of(format, text, fault));
 }
 
 #[tactic(auto, unfolding(crate::specs::Refusals::instance_reason))]
-fn instance_reason(kind: Kind, fault: ReadFaultKind) -> &'static str
-    ensures { result.now ≡ instance_reason kind fault }
+fn instance_reason(layout: Layout, fault: ReadFaultKind) -> &'static str
+    ensures { result.now ≡ instance_reason layout fault }
 {
     match fault {
         ReadFaultKind::BadNumber => "a word is not a whole number",
         ReadFaultKind::Range => "a number is outside its limits",
         ReadFaultKind::FieldCount => "the number of words is wrong",
-        ReadFaultKind::TaskOrder => "task numbers do not rise from 0",
+        ReadFaultKind::TaskOrder => out_of_order(layout),
         ReadFaultKind::PairMismatch => "a task is no half of a pair",
         ReadFaultKind::EmptyWindow => "a window ends before it begins",
-        ReadFaultKind::TooManyStops => too_many(kind),
-        ReadFaultKind::MissingKey => "a key or a section is missing",
+        ReadFaultKind::TooManyStops => too_many(layout),
+        ReadFaultKind::MissingKey => missing_line(layout),
         ReadFaultKind::Unsupported => "the key or its value is not supported",
         ReadFaultKind::DepotNotFirst => "the list of depots is not 1 and then -1",
         ReadFaultKind::NodeRepeated => "a node, a key or a section stands twice",
@@ -84,12 +84,33 @@ fn instance_reason(kind: Kind, fault: ReadFaultKind) -> &'static str
 }
 
 #[tactic(auto, unfolding(crate::specs::Refusals::too_many))]
-fn too_many(kind: Kind) -> &'static str
-    ensures { result.now ≡ too_many kind }
+fn too_many(layout: Layout) -> &'static str
+    ensures { result.now ≡ too_many layout }
 {
-    match kind {
-        Kind::LiLim => "a task has a number above 40000",
-        Kind::Vrp => "there are more nodes than 40001",
+    match layout {
+        Layout::LiLim => "a task has a number above 40000",
+        Layout::Solomon => "a customer has a number above 40000",
+        Layout::Vrp => "there are more nodes than 40001",
+    }
+}
+
+#[tactic(auto, unfolding(crate::specs::Refusals::out_of_order))]
+fn out_of_order(layout: Layout) -> &'static str
+    ensures { result.now ≡ out_of_order layout }
+{
+    match layout {
+        Layout::LiLim | Layout::Vrp => "task numbers do not rise from 0",
+        Layout::Solomon => "customer numbers do not rise from 0",
+    }
+}
+
+#[tactic(auto, unfolding(crate::specs::Refusals::missing_line))]
+fn missing_line(layout: Layout) -> &'static str
+    ensures { result.now ≡ missing_line layout }
+{
+    match layout {
+        Layout::LiLim | Layout::Vrp => "a key or a section is missing",
+        Layout::Solomon => "the line begins with the wrong word",
     }
 }
 
@@ -132,19 +153,31 @@ fn put_bom_note(text: &mut TextBuffer, refused: &[u8])
     put_if(text, words, matches!(refused, [0xef, 0xbb, 0xbf, ..]));
 }
 
-// Appends a note if an instance that is read as this kind looks like the other kind.
-fn put_kind_note(text: &mut TextBuffer, kind: Kind, instance: &[u8])
-    ensures { text.new ≡ text.old ++ kind_note kind instance.now }
+// Appends a note if an instance that is read with this layout looks as if it had another one.
+fn put_layout_note(text: &mut TextBuffer, layout: Layout, instance: &[u8])
+    ensures { text.new ≡ text.old ++ layout_note layout instance.now }
 {
-    match kind {
-        Kind::LiLim => {
+    match layout {
+        Layout::LiLim => {
             let words = "the text looks like a .vrp instance, and is read as lilim\n";
             put_if(text, words, looks_like_vrp(instance))
         }
-        Kind::Vrp => {
+        Layout::Solomon => put_solomon_note(text, instance),
+        Layout::Vrp => {
             let words = "the text looks like a Li-Lim instance, and is read as vrp\n";
             put_if(text, words, looks_like_lilim(instance))
         }
+    }
+}
+
+fn put_solomon_note(text: &mut TextBuffer, instance: &[u8])
+    ensures { text.new ≡ text.old ++ solomon_note instance.now }
+{
+    if looks_like_vrp(instance) {
+        text.push_str("the text looks like a .vrp instance, and is read as solomon\n")
+    } else {
+        let words = "the text looks like a Li-Lim instance, and is read as solomon\n";
+        put_if(text, words, looks_like_lilim(instance))
     }
 }
 

@@ -1,10 +1,10 @@
 //! Templates with values in them, and the names of the fields and keys of instances.
 ghost use Rattle.std.specs.Prelude.{◌≡◌, ◌<◌, ◌++◌, map};
 ghost use Rattle.std.specs.Option.{option_copied};
-ghost use Rattle.plan_explain.specs.Templates.{demand_text, field_name, form, key_name, left, next_text, plain_byte, position_text, required_value, text_if, value_text};
+ghost use Rattle.plan_explain.specs.Templates.{demand_text, field_name, form, key_name, left, line_name, next_text, plain_byte, position_text, required_value, text_if, value_text};
 
 use crate::quotes::put_quoted;
-use instance_read::{Field, Key};
+use instance_read::{Field, Key, SolomonLine};
 use plan_types::Stop;
 use rule_violations::StopPosition;
 use text_buffer::TextBuffer;
@@ -28,6 +28,7 @@ pub(crate) enum Value<'a> {
     Quote(&'a [u8]),
     Name(Field),
     KeyName(Key),
+    LineName(SolomonLine),
     /// The value that this key must have.
     RequiredValue(Key),
     /// The demand of a stop, or nothing if there is no stop.
@@ -84,6 +85,7 @@ fn put_value(text: &mut TextBuffer, value: Value<'_>)
         Value::Quote(bytes) => put_quoted(text, bytes),
         Value::Name(field) => text.push_str(field_name(field)),
         Value::KeyName(key) => text.push_str(key_name(key)),
+        Value::LineName(line) => text.push_str(line_name(line)),
         Value::RequiredValue(key) => text.push_str(required_value(key)),
         Value::Demand(stop) => put_demand(text, stop),
     }
@@ -129,12 +131,14 @@ fn field_name(field: Field) -> &'static str
         Field::Fleet => "fleet",
         Field::Capacity => "capacity",
         Field::Speed => "speed",
-        Field::Number => "number",
+        Field::Number | Field::Customer => "number",
         Field::X => "x",
         Field::Y => "y",
         Field::Demand => "demand",
         Field::Earliest => "earliest",
         Field::Latest => "latest",
+        Field::Ready => "ready",
+        Field::Due => "due",
         Field::Service => "service",
         Field::Pickup => "pickup",
         Field::Delivery => "delivery",
@@ -159,6 +163,22 @@ fn key_name(key: Key) -> &'static str
         Key::Demands => "DEMAND_SECTION",
         Key::Depots => "DEPOT_SECTION",
         _ => "",
+    }
+}
+
+// Returns the name of a line in Solomon's format: the word with which it begins, or what it has.
+#[tactic(auto, unfolding(crate::specs::Templates::line_name))]
+fn line_name(line: SolomonLine) -> &'static str
+    ensures { result.now ≡ line_name line }
+{
+    match line {
+        SolomonLine::Name => "the name",
+        SolomonLine::Vehicle => "VEHICLE",
+        SolomonLine::Number => "NUMBER",
+        SolomonLine::Fleet => "fleet and capacity",
+        SolomonLine::Customers => "CUSTOMER",
+        SolomonLine::Columns => "CUST",
+        SolomonLine::Depot | SolomonLine::Customer => "customer 0, the depot,",
     }
 }
 

@@ -74,7 +74,7 @@ module _ (keeps : CommandsKeepInvariants) (many : RunsKeepInvariants) (rise : Co
   solved_keeps steps deviation few = from_keeps steps (deviation_of deviation) few
 
 pub solutions_pass : CommandsKeepInvariants → RunsKeepInvariants → CostsNeverRise → StepsKeepPassing → WholePlansPassPrinted → SolutionsPassIffSound → SolutionsPassAudit
-solutions_pass keeps many rise walks whole sound_where kind text seed steps deviation before after_it found fits is complete =
+solutions_pass keeps many rise walks whole sound_where format text seed steps deviation before after_it found fits is complete =
     let p = is.problem in
     let j : JobValue = solved p seed steps deviation in
     let kept = solved_keeps keeps many rise walks p seed is.kept fits steps deviation is.few in

@@ -3,7 +3,6 @@ use Rattle.std.specs.Prelude.{◌≡◌, ◌≢◌, ℕ, ◌*◌, ◌/◌, ◌<�
 use Rattle.std.specs.List.{flat_map, list_all, range_with_len}
 use Rattle.std.specs.Io.KnownBytes.{Appends}
 use Rattle.plan_types.specs.Instance.{Instance, IsInstance}
-use Rattle.plan_types.specs.declared.requests.Kind.{Kind}
 use Rattle.instance_read.specs.Faults.{IsFirstFault}
 use Rattle.instance_read.specs.declared.faults.ReadFault.{ReadFault}
 use Rattle.instance_read.specs.declared.faults.ReadFaultKind.TheVariants as read_fault
@@ -21,6 +20,7 @@ use Rattle.command_text.specs.Answering.{commands_of}
 use Rattle.command_text.specs.Answers.{at_text, line}
 use Rattle.command_text.specs.Laws.{state_after_steps}
 use Rattle.instance_read.specs.Readings.{InstanceFault, SpellsInstance}
+use Rattle.instance_read.specs.declared.formats.Format.{Format}
 use Rattle.plan_types.specs.Limits.{max_requested_steps, max_deviation}
 use Rattle.command_text.specs.Showing.{print_text, solution_of}
 use Rattle.command_text.specs.declared.steps.StepRequest.TheVariants as goal
@@ -143,19 +143,19 @@ pub record PrintsPlan (j : JobValue) (found : SolvedPlan) : Type 0 where
 
 -- The text represents a problem, the answer has the plan for it, and the progress lines are written unless one
 -- could not be
-pub record IsSolved (kind : Kind) (text : List ℕ) (seed steps : ℕ) (deviation : Option ℕ) (before after_it : Option (List ℕ)) (found : SolvedPlan) : Type 0 where
+pub record IsSolved (format : Format) (text : List ℕ) (seed steps : ℕ) (deviation : Option ℕ) (before after_it : Option (List ℕ)) (found : SolvedPlan) : Type 0 where
   pub problem : Instance
-  pub spelled : SpellsInstance kind text problem
+  pub spelled : SpellsInstance format text problem
   pub kept : IsInstance problem
   pub few : steps < 2 ^ 32
   pub plan : PrintsPlan (solved problem seed steps deviation) found
   pub reported : found.is_written ≡ true → Appends before after_it (progress problem seed steps deviation)
 
 -- The first fault of the text, which is not out of memory
-abbrev pub IsFirst : Kind → List ℕ → ReadFault → Type 0
-IsFirst kind text first = (first.kind ≢ read_fault.OutOfMemory) × IsFirstFault (InstanceFault kind text) first
+abbrev pub IsFirst : Format → List ℕ → ReadFault → Type 0
+IsFirst format text first = (first.kind ≢ read_fault.OutOfMemory) × IsFirstFault (InstanceFault format text) first
 
 -- The fault is the first one of the text, or memory ran out, which may happen at any time
-abbrev pub Fails : Kind → List ℕ → Option (List ℕ) → Option (List ℕ) → SolveFault → Type 0
-Fails kind text before after_it (fault.Refused first) = IsFirst kind text first × Appends before after_it []
-Fails kind text before after_it fault.OutOfMemory = ⊤
+abbrev pub Fails : Format → List ℕ → Option (List ℕ) → Option (List ℕ) → SolveFault → Type 0
+Fails format text before after_it (fault.Refused first) = IsFirst format text first × Appends before after_it []
+Fails format text before after_it fault.OutOfMemory = ⊤

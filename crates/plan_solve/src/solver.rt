@@ -12,9 +12,9 @@ use crate::printing::answer;
 use crate::progress_lines::EndedJob;
 use crate::search::search_with_progress;
 use command_core::{Command, Job, Planner, State};
-use instance_read::{ReadFault, ReadFaultKind, read_instance};
+use instance_read::{Format, ReadFault, ReadFaultKind, read_instance};
 use plan_types::limits::MAX_DEVIATION;
-use plan_types::{Kind, OutOfMemory, Problem};
+use plan_types::{OutOfMemory, Problem};
 use std::alloc::Global;
 use std::io::Write;
 
@@ -46,7 +46,7 @@ pub struct SolvedPlan {
 /// `Refused` with the first fault of the text. `OutOfMemory` at any time.
 pub fn solve<W: Write>(
     alloc: Global,
-    kind: Kind,
+    format: Format,
     instance: &[u8],
     seed: u64,
     steps: u32,
@@ -54,10 +54,10 @@ pub fn solve<W: Write>(
     progress: &mut W,
 ) -> Result<SolvedPlan, SolveFault>
     ensures { let before = W.contents progress.old in let after = W.contents progress.new in
-        MatchResult result (IsSolved kind instance.now seed steps deviation before after)
-        (Fails kind instance.now before after) }
+        MatchResult result (IsSolved format instance.now seed steps deviation before after)
+        (Fails format instance.now before after) }
 {
-    let problem = match read_instance(alloc, kind, instance) {
+    let problem = match read_instance(alloc, format, instance) {
         Ok(problem) => problem,
         Err(fault) => return Err(refused(fault)),
     };

@@ -2,11 +2,11 @@
 use Rattle.std.proofs.Common.{◌≡◌, ℕ, List, [], ◌∷◌, Option, Some, None, Err, refl, ap, subst}
 use Rattle.std.specs.Io.KnownBytes.{Appends}
 use Rattle.std.specs.declared.io.ErrorKind.{ErrorKind}
-use Rattle.plan_types.specs.declared.requests.Kind.{Kind}
 use Rattle.command_text.specs.Answers.{line}
 use Rattle.auditor_cli.proofs.ListLemmas.{grown_twice}
 use Rattle.auditor_cli.specs.Reads.{FileRead, FileWrite}
 use Rattle.auditor_cli.specs.Messages.{PrintsWriteFailure, write_failure_line}
+use Rattle.instance_read.specs.declared.formats.Format.{Format}
 use Rattle.planner_cli.specs.Solve.{unplanned_line}
 use Rattle.planner_cli.specs.Solves.{AreGrown, FileEffects, IsAuditOf, IsPlanLine, IsWriteFailure, PrintsPlaced, with_read}
 use Rattle.auditor_cli.specs.declared.answer.AuditAnswer.{AuditAnswer}
@@ -22,7 +22,7 @@ pub all_grown : (was next now : FileEffects) → AreGrown was next → AreGrown 
 all_grown was next now a b = (grown_twice was.reads next.reads now.reads a.0 b.0, grown_twice was.writes next.writes now.writes a.1 b.1)
 
 -- The line of a plan depends on its text and on whether it leaves requests out.
-pub placed_plan : (k : Kind) (x text names : List ℕ) (audited : Option AuditAnswer) (before after : Option (List ℕ)) (status : ℕ)
+pub placed_plan : (k : Format) (x text names : List ℕ) (audited : Option AuditAnswer) (before after : Option (List ℕ)) (status : ℕ)
     → IsAuditOf k x text names audited → PrintsPlaced audited names before after status
     → (reported : List ℕ) × IsPlanLine k x text names reported status × Appends before after reported
 placed_plan k x text [] (Some answer) before after status is reported = (line answer.line, (answer, is, refl, reported.0), reported.1)

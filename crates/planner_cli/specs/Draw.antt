@@ -3,7 +3,6 @@ use Rattle.std.specs.Prelude.{◌≡◌, ◌⊎◌, ◌+◌, ◌==◌, ℕ, if�
 use Rattle.std.specs.Io.KnownBytes.{Appends}
 use Rattle.std.specs.declared.alloc.AllocError.{AllocError}
 use Rattle.std.specs.declared.io.ErrorKind.{ErrorKind}
-use Rattle.plan_types.specs.declared.requests.Kind.{Kind}
 use Rattle.plan_types.specs.Instance.{Instance}
 use Rattle.plan_audit.specs.declared.rules.Verdict.{Verdict}
 use Rattle.plan_audit.specs.declared.rules.Verdict.TheVariants.{Pass}
@@ -16,6 +15,7 @@ use Rattle.auditor_cli.specs.Examination.{answer_of}
 use Rattle.auditor_cli.specs.Files.{AreBothRead, IsUnread}
 use Rattle.auditor_cli.specs.Reads.{FileRead}
 use Rattle.command_text.specs.Answers.{line}
+use Rattle.instance_read.specs.declared.formats.Format.{Format}
 use Rattle.planner_cli.specs.ReadOnly.{OpensReadOnly}
 use Rattle.planner_cli.specs.Opening.{MayAnnounceReplay, PrintsOpenFailure}
 use Rattle.auditor_cli.specs.Messages.{PrintsReadFailure}
@@ -57,9 +57,9 @@ IsPlanDrawing route (plan.Whole examined) drawing = IsDrawingOf route examined d
 IsPlanDrawing route (plan.Partial partial) drawing = IsPartialDrawing route partial drawing
 
 -- The result of drawing the solution in two texts, or one of its routes.
-pub record IsDrawing (kind : Kind) (route : Option ℕ) (instance solution : List ℕ) (drawing : Drawing) : Type 0 where
+pub record IsDrawing (format : Format) (route : Option ℕ) (instance solution : List ℕ) (drawing : Drawing) : Type 0 where
   pub examined : PlanExamination
-  pub is_examined : IsPlanExamined kind instance solution examined
+  pub is_examined : IsPlanExamined format instance solution examined
   pub drawn : IsPlanDrawing route examined drawing
 
 -- The picture is written to the output, or the reason why there is none to standard error. The other stream
@@ -76,7 +76,7 @@ PrintsDrawResult (Ok drawing) output after errors later status = PrintsDrawing d
 PrintsDrawResult (Err e) output after errors later status = (status ≡ 4) × Appends errors later (line (codes "out of memory")) × Appends output after []
 
 -- Both files were read, and the solution was drawn.
-pub record DrawsBothRead (k : Kind) (route : Option ℕ) (instance solution : List ℕ) (was now : List FileRead) (output after errors later : Option (List ℕ)) (status : ℕ) : Type 0 where
+pub record DrawsBothRead (k : Format) (route : Option ℕ) (instance solution : List ℕ) (was now : List FileRead) (output after errors later : Option (List ℕ)) (status : ℕ) : Type 0 where
   pub x : List ℕ
   pub y : List ℕ
   pub read : AreBothRead instance solution x y was now
@@ -92,7 +92,7 @@ pub record PrintsUnreadFile (instance solution : List ℕ) (was now : List FileR
   pub reported : PrintsReadFailure path error errors later status
   pub silent : Appends output after []
 
-abbrev pub DrawsFiles : Kind → Option ℕ → List ℕ → List ℕ → List FileRead → List FileRead → Option (List ℕ) → Option (List ℕ) → Option (List ℕ) → Option (List ℕ) → ℕ → Type 0
+abbrev pub DrawsFiles : Format → Option ℕ → List ℕ → List ℕ → List FileRead → List FileRead → Option (List ℕ) → Option (List ℕ) → Option (List ℕ) → Option (List ℕ) → ℕ → Type 0
 DrawsFiles k route instance solution was now output after errors later status =
     DrawsBothRead k route instance solution was now output after errors later status ⊎ PrintsUnreadFile instance solution was now output after errors later status
 

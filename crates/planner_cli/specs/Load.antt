@@ -97,8 +97,8 @@ module _ {D E X : Type 0} (on_old : sectors.Ghosts D) (on_new : sectors.Ghosts E
   abbrev pub LoadsText : LoadArgsValue → List ℕ → Stream → Stream → Result ℕ X → StoreDevices D E → Type 0
   LoadsText requested text before after reported left =
       (found : Result Instance ReadFault)
-      × MatchResult found (λ problem. SpellsInstance requested.kind text problem × LoadsStore requested.store (Load problem requested.seed) before after reported left)
-      (λ fault. ReportsFirstFault (InstanceFault requested.kind text) fault × (disks.now ≡ disks.was) × (left ≡ no_devices) × IfOk reported (PrintsInstanceFault fault before.contents after.contents))
+      × MatchResult found (λ problem. SpellsInstance requested.format text problem × LoadsStore requested.store (Load problem requested.seed) before after reported left)
+      (λ fault. ReportsFirstFault (InstanceFault requested.format text) fault × (disks.now ≡ disks.was) × (left ≡ no_devices) × IfOk reported (PrintsInstanceFault fault before.contents after.contents))
 
   -- The instance's file is read first, and its text is loaded; or a line says that the file can't be read.
   abbrev pub LoadsInstance : LoadArgsValue → List FileRead → List FileRead → Stream → Stream → Result ℕ X → StoreDevices D E → Type 0

@@ -5,6 +5,7 @@ use Rattle.clap.specs.Words.{Text}
 use Rattle.command_line.specs.Invocations.{InvocationValue, IsUsageStatus, adopt, asks_help, audit, audits, built_in, check}
 use Rattle.command_line.specs.Invocations.{draw, draw_store, explain, format, load, run, solve, solves, store_instance, store_timetable, timetable, upgrade}
 use Rattle.plan_types.specs.declared.requests.Kind.TheVariants.{LiLim}
+use Rattle.instance_read.specs.Formats.{format_of}
 use Rattle.command_server.specs.TrackedStream.{held, reads_of, still_known}
 use Rattle.command_server.specs.Streams.{Given, Stream}
 use Rattle.auditor_cli.specs.IgnoredLines.{PrintsIgnored}
@@ -159,18 +160,18 @@ module _ {D N : Type 0} (on_old : sectors.Ghosts D) (on_new : sectors.Ghosts N) 
   -- path that is opened, opened for reading only, or made; `IsNew` is the knowledge about the device over a
   -- second file that is made. `left` are the devices afterwards: no call on them follows.
   abbrev pub Does : {X : Type 0} → InvocationValue → World → World → StoreDevices D N → Result ℕ X → Type 0
-  Does built_in old new left reported = IfOk reported (PrintsAudit LiLim example_instance example_solution old.output.contents new.output.contents)
+  Does built_in old new left reported = IfOk reported (PrintsAudit (format_of LiLim) example_instance example_solution old.output.contents new.output.contents)
   Does (audit paths routes_alone) old new left reported =
       IfOk reported
-      (λ status. PrintsFiles routes_alone paths.kind paths.instance paths.solution old.files new.files old.output.contents new.output.contents status
-      × PrintsIgnored paths.kind paths.instance paths.solution old.files new.files old.errors new.errors)
+      (λ status. PrintsFiles routes_alone paths.format paths.instance paths.solution old.files new.files old.output.contents new.output.contents status
+      × PrintsIgnored paths.format paths.instance paths.solution old.files new.files old.errors new.errors)
   Does (audits kind list routes_alone) old new left reported =
       IfOk reported (PrintsList routes_alone kind list old.files new.files old.output.contents new.output.contents old.errors new.errors)
   Does (explain paths routes_alone) old new left reported =
       IfOk reported
-      (λ status. ExplainsFiles routes_alone paths.kind paths.instance paths.solution old.files new.files old.output.contents new.output.contents status
-      × PrintsIgnored paths.kind paths.instance paths.solution old.files new.files old.errors new.errors)
-  Does (draw paths route) old new left reported = IfOk reported (DrawsFiles paths.kind route paths.instance paths.solution old.files new.files old.output.contents new.output.contents old.errors new.errors)
+      (λ status. ExplainsFiles routes_alone paths.format paths.instance paths.solution old.files new.files old.output.contents new.output.contents status
+      × PrintsIgnored paths.format paths.instance paths.solution old.files new.files old.errors new.errors)
+  Does (draw paths route) old new left reported = IfOk reported (DrawsFiles paths.format route paths.instance paths.solution old.files new.files old.output.contents new.output.contents old.errors new.errors)
   Does (draw_store store route) old new left reported = IfOk reported (DrawsStore on_old IsShared store route old.output.contents new.output.contents old.errors new.errors)
   Does (solve task) old new left reported = IfOk reported (SolvesInstance task old.files new.files old.output.contents new.output.contents old.errors new.errors)
   Does (solves tasks) old new left reported =
@@ -179,11 +180,11 @@ module _ {D N : Type 0} (on_old : sectors.Ghosts D) (on_new : sectors.Ghosts N) 
   Does (load requested) old new left reported = LoadsInstance on_old on_new IsOld IsNew (disks_in old new) requested old.files new.files old.output new.output reported left
   Does (run store is_strict) old new left reported = IfOk reported (RunsStore on_old IsOld store is_strict (given_in old new) old.output new.output new.input_failed new.output_failed)
   Does (adopt store solution) old new left reported = AdoptsSolution on_old IsOld (disks_in old new) store solution old.files new.files old.output new.output reported left.store
-  Does (store_instance store) old new left reported = IfOk reported (WritesStore on_old IsShared store old.output.contents new.output.contents)
+  Does (store_instance store) old new left reported = IfOk reported (WritesStore on_old IsShared store old.output.contents new.output.contents new.errors)
   Does (check store) old new left reported = IfOk reported (ChecksStore on_old IsShared store old.output.contents new.output.contents)
   Does (upgrade path new_path) old new left reported = UpgradesStore on_old on_new IsOld IsNew path new_path (disks_in old new) old.output new.output reported left
   Does (timetable paths is_tabbed) old new left reported =
-      IfOk reported (TimetablesFiles paths.kind (form_of is_tabbed) paths.instance paths.solution old.files new.files old.output.contents new.output.contents old.errors new.errors)
+      IfOk reported (TimetablesFiles paths.format (form_of is_tabbed) paths.instance paths.solution old.files new.files old.output.contents new.output.contents old.errors new.errors)
   Does (store_timetable store is_tabbed) old new left reported = IfOk reported (TimetablesStore on_old IsShared store (form_of is_tabbed) old.output.contents new.output.contents)
 
   -- The subcommand was executed, and everything else was left as it was, whether or not the answer could be

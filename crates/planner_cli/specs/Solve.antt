@@ -70,14 +70,14 @@ PrintsSolveResult (Err f) output after errors later status = PrintsSolveFault f 
 pub record SolvesAndPrints (task : SolveArgsValue) (text : List ℕ) (output after errors later : Option (List ℕ)) (status : ℕ) : Type 0 where
   pub found : Result SolvedPlan SolveFault
   pub searched : Option (List ℕ)
-  pub solves : MatchResult found (IsSolved task.kind text task.seed task.steps task.deviation errors searched) (Fails task.kind text errors searched)
+  pub solves : MatchResult found (IsSolved task.format text task.seed task.steps task.deviation errors searched) (Fails task.format text errors searched)
   pub reported : PrintsSolveResult found output after searched later status
 
 -- The file was read and the instance solved. If the instance names a limit that is ignored, this is printed on
 -- standard error first.
 abbrev pub SolvesText : SolveArgsValue → List FileRead → List FileRead → Option (List ℕ) → Option (List ℕ) → Option (List ℕ) → Option (List ℕ) → ℕ → Type 0
 SolvesText task was now output after errors later status =
-    (x : List ℕ) × (noted : Option (List ℕ)) × (now ≡ (task.instance, Ok x) ∷ was) × Appends errors noted (ignored_limit_note task.kind task.instance x) × SolvesAndPrints task x output after noted later status
+    (x : List ℕ) × (noted : Option (List ℕ)) × (now ≡ (task.instance, Ok x) ∷ was) × Appends errors noted (ignored_limit_note task.format task.instance x) × SolvesAndPrints task x output after noted later status
 
 -- A line says that the file can't be read.
 abbrev pub PrintsUnreadTask : SolveArgsValue → List FileRead → List FileRead → Option (List ℕ) → Option (List ℕ) → Option (List ℕ) → Option (List ℕ) → ℕ → Type 0

@@ -4,7 +4,6 @@
 use Rattle.std.specs.Prelude.{◌≡◌, ◌≤◌, ◌⊎◌, ℕ, List, [], ◌∷◌, Option, None, Some, Result, Ok, Err, IfOk, MatchResult}
 use Rattle.std.specs.Io.KnownBytes.{Appends}
 use Rattle.std.specs.declared.io.ErrorKind.{ErrorKind}
-use Rattle.plan_types.specs.declared.requests.Kind.{Kind}
 use Rattle.plan_solve.specs.Solved.{Fails, IsSolved}
 use Rattle.plan_solve.specs.declared.faults.SolveFault.{SolveFault}
 use Rattle.plan_solve.specs.declared.faults.SolveFault.TheVariants as fault
@@ -15,6 +14,7 @@ use Rattle.auditor_cli.specs.Answer.{IsAnswer}
 use Rattle.auditor_cli.specs.IgnoredLines.{ignored_limit_note}
 use Rattle.auditor_cli.specs.Audits.{IsBadLine, IsPair, PrintsListBy, pair_text}
 use Rattle.auditor_cli.specs.Reads.{FileRead, FileWrite, IsGrown}
+use Rattle.instance_read.specs.declared.formats.Format.{Format}
 use Rattle.planner_cli.specs.Solve.{fault_line, fault_status, unplanned_line}
 use Rattle.auditor_cli.specs.Messages.{read_failure_line, read_failure_status, write_failure_line, write_failure_status}
 use Rattle.auditor_cli.specs.declared.answer.AuditAnswer.{AuditAnswer}
@@ -36,7 +36,7 @@ with_read read was = record { reads = read ∷ was.reads; writes = was.writes; e
 pub record Finds (tasks : SolvesArgsValue) (text : List ℕ) (found : Result SolvedPlan SolveFault) : Type 0 where
   pub before : Option (List ℕ)
   pub later : Option (List ℕ)
-  pub solves : MatchResult found (IsSolved tasks.kind text tasks.seed tasks.steps None before later) (Fails tasks.kind text before later)
+  pub solves : MatchResult found (IsSolved tasks.format text tasks.seed tasks.steps None before later) (Fails tasks.format text before later)
 
 -- ---- The plan that was found is written
 
@@ -55,16 +55,16 @@ pub record IsWriteFailure (path : List ℕ) (made left : List FileWrite) (report
 
 -- The line for a plan that is written: the audit of its text if it serves every request, and otherwise the
 -- requests that it leaves out.
-abbrev pub IsPlanLine : Kind → List ℕ → List ℕ → List ℕ → List ℕ → ℕ → Type 0
+abbrev pub IsPlanLine : Format → List ℕ → List ℕ → List ℕ → List ℕ → ℕ → Type 0
 IsPlanLine k x text [] reported status = (answer : AuditAnswer) × IsAnswer k x text answer × (reported ≡ line answer.line) × (status ≡ answer.status)
 IsPlanLine k x text (name ∷ names) reported status = (reported ≡ unplanned_line (name ∷ names)) × (status ≡ 1)
 
 -- The text of the plan was written, exactly as `solve` prints it.
-pub record IsWritten (k : Kind) (x path : List ℕ) (solved : SolvedPlan) (made left : List FileWrite) (reported : List ℕ) (status : ℕ) : Type 0 where
+pub record IsWritten (k : Format) (x path : List ℕ) (solved : SolvedPlan) (made left : List FileWrite) (reported : List ℕ) (status : ℕ) : Type 0 where
   pub noted : left ≡ (path, Ok solved.text.items) ∷ made
   pub plan : IsPlanLine k x solved.text.items solved.unplanned.items reported status
 
-abbrev pub IsPlaced : Kind → List ℕ → List ℕ → Result SolvedPlan SolveFault → List FileWrite → List FileWrite → List ℕ → ℕ → Type 0
+abbrev pub IsPlaced : Format → List ℕ → List ℕ → Result SolvedPlan SolveFault → List FileWrite → List FileWrite → List ℕ → ℕ → Type 0
 IsPlaced k x path (Err f) made left reported status = IsFailed f made left reported status
 IsPlaced k x path (Ok solved) made left reported status =
     IsWritten k x path solved made left reported status ⊎ (IsWriteFailure path made left reported status ⊎ IsFailed fault.OutOfMemory made left reported status)
@@ -85,10 +85,10 @@ pub record IsReadFailure (path : List ℕ) (was now : FileEffects) (reported : L
 pub record IsSolvedInto (tasks : SolvesArgsValue) (instance path : List ℕ) (was now : FileEffects) (reported : List ℕ) (status : ℕ) : Type 0 where
   pub x : List ℕ
   pub noted : now.reads ≡ (instance, Ok x) ∷ was.reads
-  pub limit : Appends was.errors now.errors (ignored_limit_note tasks.kind instance x)
+  pub limit : Appends was.errors now.errors (ignored_limit_note tasks.format instance x)
   pub found : Result SolvedPlan SolveFault
   pub finds : Finds tasks x found
-  pub placed : IsPlaced tasks.kind x path found was.writes now.writes reported status
+  pub placed : IsPlaced tasks.format x path found was.writes now.writes reported status
 
 -- It was known beforehand that no file can be made at the path, and nothing was read.
 pub record IsSkipped (path : List ℕ) (was now : FileEffects) (reported : List ℕ) (status : ℕ) : Type 0 where
@@ -131,7 +131,7 @@ pub record Ends {S E : Type 0} (AreKept : S → S → Type 0) (Reports : S → S
   pub reported : IfOk result (Reports was now before after)
 
 -- The audit of a plan's text, if the plan leaves no request out.
-abbrev pub IsAuditOf : Kind → List ℕ → List ℕ → List ℕ → Option AuditAnswer → Type 0
+abbrev pub IsAuditOf : Format → List ℕ → List ℕ → List ℕ → Option AuditAnswer → Type 0
 IsAuditOf k x text [] (Some answer) = IsAnswer k x text answer
 IsAuditOf k x text [] None = ⊥
 IsAuditOf k x text (name ∷ names) (Some answer) = ⊥
@@ -146,13 +146,13 @@ abbrev pub PrintsPlaced : Option AuditAnswer → List ℕ → Option (List ℕ) 
 PrintsPlaced (Some answer) names before after status = (status ≡ answer.status) × Appends before after (line answer.line)
 PrintsPlaced None names before after status = (status ≡ 1) × Appends before after (unplanned_line names)
 
-abbrev pub Places : Kind → List ℕ → List ℕ → Result SolvedPlan SolveFault → List FileWrite → List FileWrite → Option (List ℕ) → Option (List ℕ) → ℕ → Type 0
+abbrev pub Places : Format → List ℕ → List ℕ → Result SolvedPlan SolveFault → List FileWrite → List FileWrite → Option (List ℕ) → Option (List ℕ) → ℕ → Type 0
 Places k x path found made left before after status = (reported : List ℕ) × IsPlaced k x path found made left reported status × Appends before after reported
 
 -- A plan with this audit is written, and its line is printed.
 abbrev pub PlacesAudited : List ℕ → SolvedPlan → Option AuditAnswer → List FileWrite → List FileWrite → Option (List ℕ) → Option (List ℕ) → ℕ → Type 0
 PlacesAudited path solved audited made left before after status =
-    (k : Kind) (x : List ℕ) → IsAuditOf k x solved.text.items solved.unplanned.items audited → Places k x path (Ok solved) made left before after status
+    (k : Format) (x : List ℕ) → IsAuditOf k x solved.text.items solved.unplanned.items audited → Places k x path (Ok solved) made left before after status
 
 abbrev pub PrintsTask : SolvesArgsValue → List ℕ → List ℕ → FileEffects → FileEffects → Option (List ℕ) → Option (List ℕ) → ℕ → Type 0
 PrintsTask tasks instance path was now before after status = (reported : List ℕ) × IsTaskLine tasks instance path was now reported status × Appends before after reported

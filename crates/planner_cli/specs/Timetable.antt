@@ -3,7 +3,6 @@ use Rattle.std.specs.Prelude.{◌≡◌, ◌⊎◌, ℕ, Bool, true, false, List
 use Rattle.std.specs.Io.KnownBytes.{Appends}
 use Rattle.std.specs.declared.alloc.AllocError.{AllocError}
 use Rattle.plan_types.specs.Instance.{Instance}
-use Rattle.plan_types.specs.declared.requests.Kind.{Kind}
 use Rattle.route_sched.specs.Cost.{cost_of}
 use Rattle.plan_audit.specs.declared.rules.Verdict.{Verdict}
 use Rattle.plan_timetable.specs.Timetable.{solution_timetable_text, timetable_text}
@@ -21,6 +20,7 @@ use Rattle.auditor_cli.specs.Partial.{IsPlanAnswer, IsPlanExamined, partial_answ
 use Rattle.auditor_cli.specs.Messages.{PrintsOutOfMemory}
 use Rattle.auditor_cli.specs.Files.{AreBothRead}
 use Rattle.auditor_cli.specs.Reads.{FileRead}
+use Rattle.instance_read.specs.declared.formats.Format.{Format}
 use Rattle.planner_cli.specs.ReadOnly.{OpensReadOnly}
 use Rattle.planner_cli.specs.Solve.{left_out_text}
 use Rattle.planner_cli.specs.declared.timetable.TimetableReport.{TimetableReport}
@@ -68,9 +68,9 @@ IsReport form (Whole examined) reported = IsWholeReport form examined reported
 IsReport form (Partial partial) reported = IsPartialReport form partial reported
 
 -- The result of examining two texts, with their timetable.
-pub record IsTimetable (kind : Kind) (form : Form) (instance solution : List ℕ) (reported : TimetableReport) : Type 0 where
+pub record IsTimetable (format : Format) (form : Form) (instance solution : List ℕ) (reported : TimetableReport) : Type 0 where
   pub examined : PlanExamination
-  pub is_examined : IsPlanExamined kind instance solution examined
+  pub is_examined : IsPlanExamined format instance solution examined
   pub tells : IsReport form examined reported
 
 -- The answer and the timetable are written to the output, and the requests that are left out to standard error;
@@ -81,7 +81,7 @@ PrintsReport (Ok reported) before after errors later status =
 PrintsReport (Err e) before after errors later status = PrintsOutOfMemory before after status × Appends errors later []
 
 -- Both files were read. The answer is that of their audit, or the answer for a partial plan.
-pub record TimetablesBothRead (k : Kind) (form : Form) (instance solution : List ℕ) (was now : List FileRead) (before after errors later : Option (List ℕ)) (status : ℕ) : Type 0 where
+pub record TimetablesBothRead (k : Format) (form : Form) (instance solution : List ℕ) (was now : List FileRead) (before after errors later : Option (List ℕ)) (status : ℕ) : Type 0 where
   pub x : List ℕ
   pub y : List ℕ
   pub read : AreBothRead instance solution x y was now
@@ -91,7 +91,7 @@ pub record TimetablesBothRead (k : Kind) (form : Form) (instance solution : List
   pub reported : PrintsReport made before after errors later status
 
 -- The timetable of two files; or one of the files can't be read.
-abbrev pub TimetablesFiles : Kind → Form → List ℕ → List ℕ → List FileRead → List FileRead → Option (List ℕ) → Option (List ℕ) → Option (List ℕ) → Option (List ℕ) → ℕ → Type 0
+abbrev pub TimetablesFiles : Format → Form → List ℕ → List ℕ → List FileRead → List FileRead → Option (List ℕ) → Option (List ℕ) → Option (List ℕ) → Option (List ℕ) → ℕ → Type 0
 TimetablesFiles k form instance solution was now before after errors later status =
     TimetablesBothRead k form instance solution was now before after errors later status
     ⊎ (PrintsUnreadFile instance solution was now before after status × Appends errors later [])

@@ -15,9 +15,10 @@ use auditor_cli::{
 use command_core::{Job, State, unplanned_names};
 use command_line::Paths;
 use file_disk::{DeviceFiles, FileAssumptions, FileCalls, FileDevice, FileRequest, HostFile};
+use instance_read::Format;
 use plan_audit::{Verdict, passing_is_local, plans_are_disjoint_routes};
 use plan_picture::{draw, draw_route};
-use plan_types::{Kind, OutOfMemory, Problem, Route};
+use plan_types::{OutOfMemory, Problem, Route};
 use route_sched::plan_cost;
 use sector_disk::Sectors;
 use std::alloc::Global;
@@ -50,7 +51,7 @@ pub(crate) fn draw_files<F: ReadFiles, W: Write, E: Write>(
     ensures status { IfOk result (λ status. status ≤ 4) }
     ensures reads { AreReadInTurn paths.entry.instance.now paths.entry.solution.now
         (F.reads files.old) (F.reads files.new) }
-    ensures reported { IfOk result (DrawsFiles paths.entry.kind route paths.entry.instance.now
+    ensures reported { IfOk result (DrawsFiles paths.entry.format route paths.entry.instance.now
         paths.entry.solution.now (F.reads files.old) (F.reads files.new)
         (W.contents output.old) (W.contents output.new)
         (E.contents errors.old) (E.contents errors.new)) }
@@ -59,7 +60,7 @@ pub(crate) fn draw_files<F: ReadFiles, W: Write, E: Write>(
         Ok(both) => both,
         Err(unread) => return print_read_failure(errors, unread.path, unread.kind),
     };
-    let drawn = draw_texts(alloc, paths.kind, route, &both.0, &both.1);
+    let drawn = draw_texts(alloc, paths.format, route, &both.0, &both.1);
     print_draw_result(&drawn, output, errors)
 }
 
@@ -113,14 +114,14 @@ fn print_drawing<W: Write, E: Write>(
 // Parses both texts, audits the solution or the partial plan, and draws it, or one route of it.
 fn draw_texts(
     alloc: Global,
-    kind: Kind,
+    format: Format,
     route: Option<u32>,
     instance: &[u8],
     solution: &[u8],
 ) -> Result<Drawing, OutOfMemory>
-    ensures { IfOk result (IsDrawing kind route instance.now solution.now) }
+    ensures { IfOk result (IsDrawing format route instance.now solution.now) }
 {
-    match examine_plan(alloc, kind, instance, solution)? {
+    match examine_plan(alloc, format, instance, solution)? {
         PlanExamination::Whole(examined) => draw_examined(alloc, route, &examined),
         PlanExamination::Partial(partial) => draw_partial(alloc, route, &partial),
     }

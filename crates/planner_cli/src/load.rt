@@ -114,15 +114,15 @@ fn read_and_note<E: Write>(
     text: &[u8],
     errors: &mut E,
 ) -> LoadedInstance
-    ensures value { IfOk result.problem (SpellsInstance loading.entry.kind text.now) }
+    ensures value { IfOk result.problem (SpellsInstance loading.entry.format text.now) }
     ensures fault { IfErr result.problem
-        (ReportsFirstFault (InstanceFault loading.entry.kind text.now)) }
+        (ReportsFirstFault (InstanceFault loading.entry.format text.now)) }
     ensures reported { OnOk result.reported (Appends (E.contents errors.old) (E.contents errors.new)
-        (ignored_limit_note loading.entry.kind loading.entry.instance.now text.now)) }
+        (ignored_limit_note loading.entry.format loading.entry.instance.now text.now)) }
 {
     LoadedInstance {
-        reported: print_ignored_limit(loading.kind, loading.instance, text, errors),
-        problem: read_instance(alloc, loading.kind, text),
+        reported: print_ignored_limit(loading.format, loading.instance, text, errors),
+        problem: read_instance(alloc, loading.format, text),
     }
 }
 

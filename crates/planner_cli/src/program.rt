@@ -171,12 +171,12 @@ where
             (reported, streams, StoreDevices::none())
         }
         Invocation::Audits {
-            kind,
+            format,
             list,
             routes_alone,
         } => {
             let Streams { output, errors, .. } = &mut streams;
-            let reported = audit_list(alloc, kind, list, routes_alone, files, output, errors);
+            let reported = audit_list(alloc, format, list, routes_alone, files, output, errors);
             (reported, streams, StoreDevices::none())
         }
         Invocation::Explain {

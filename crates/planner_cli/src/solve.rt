@@ -39,10 +39,10 @@ pub(crate) fn solve_instance<F: ReadFiles, W: Write, E: Write>(
         Ok(text) => text,
         Err(error) => return print_read_failure(errors, task.instance, error.kind()),
     };
-    print_ignored_limit(task.kind, task.instance, &text, errors)?;
+    print_ignored_limit(task.format, task.instance, &text, errors)?;
     let solved = solve(
         alloc,
-        task.kind,
+        task.format,
         &text,
         task.seed,
         task.steps,

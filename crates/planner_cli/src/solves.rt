@@ -11,8 +11,8 @@ ghost use Rattle.planner_cli.specs.Solves.{AreGrown, Ends, Finds, HasStatus, IsA
 use crate::solve::{print_solve_fault, print_unplanned};
 use auditor_cli::status::{BROKEN, DONE};
 use auditor_cli::{
-    AuditAnswer, ReadFiles, WriteFiles, audit_text, pair_of, print_bad_line, print_ignored_limit,
-    print_read_failure, print_write_failure, worse_status, write_line,
+    AuditAnswer, ReadFiles, WriteFiles, audit_in_format, pair_of, print_bad_line,
+    print_ignored_limit, print_read_failure, print_write_failure, worse_status, write_line,
 };
 use command_line::SolvesArgs;
 use plan_solve::{SolveFault, SolvedPlan, solve};
@@ -167,7 +167,7 @@ impl Solver<'_> {
             Ok(text) => text,
             Err(error) => return print_read_failure(output, instance, error.kind()),
         };
-        print_ignored_limit(self.tasks.kind, instance, &text, errors)?;
+        print_ignored_limit(self.tasks.format, instance, &text, errors)?;
         let found = self.find(&text);
         let reported = self.place(&text, path, &found, new_files, output);
         drop(found);
@@ -181,7 +181,7 @@ impl Solver<'_> {
         let mut progress = io::sink();
         solve(
             self.alloc,
-            self.tasks.kind,
+            self.tasks.format,
             text,
             self.tasks.seed,
             self.tasks.steps,
@@ -200,7 +200,7 @@ impl Solver<'_> {
         output: &mut W,
     ) -> io::Result<u8>
         ensures status { IfOk result (λ status. status ≤ 4) }
-        ensures does { Ends IsGrown (Places self.now.tasks.kind instance.now path.now found.now)
+        ensures does { Ends IsGrown (Places self.now.tasks.format instance.now path.now found.now)
             (N.writes new_files.old) (N.writes new_files.new)
             (W.contents output.old) (W.contents output.new) result }
     {
@@ -221,7 +221,7 @@ impl Solver<'_> {
     ) -> io::Result<u8>
         ensures status { IfOk result (λ status. status ≤ 4) }
         ensures does { Ends IsGrown
-            (Places self.now.tasks.kind instance.now path.now (Ok solved.now))
+            (Places self.now.tasks.format instance.now path.now (Ok solved.now))
             (N.writes new_files.old) (N.writes new_files.new)
             (W.contents output.old) (W.contents output.new) result }
     {
@@ -238,13 +238,13 @@ impl Solver<'_> {
         solved: &SolvedPlan,
     ) -> Result<Option<AuditAnswer>, OutOfMemory>
         ensures status { IfOk result HasStatus }
-        ensures audited { IfOk result (IsAuditOf self.now.tasks.kind instance.now
+        ensures audited { IfOk result (IsAuditOf self.now.tasks.format instance.now
             solved.now.text.items solved.now.unplanned.items) }
     {
         if !solved.unplanned.is_empty() {
             return Ok(None);
         }
-        let answer = audit_text(self.alloc, self.tasks.kind, instance, &solved.text)?;
+        let answer = audit_in_format(self.alloc, self.tasks.format, instance, &solved.text)?;
         Ok(Some(answer))
     }
 }

@@ -21,9 +21,10 @@ use auditor_cli::{
 use command_core::{Job, State, unplanned_names};
 use command_line::Paths;
 use file_disk::{DeviceFiles, FileAssumptions, FileCalls, FileDevice, FileRequest, HostFile};
+use instance_read::Format;
 use plan_audit::{Verdict, passing_is_local, plans_are_disjoint_routes};
 use plan_timetable::{Form, solution_timetable, timetable};
-use plan_types::{Kind, OutOfMemory, Problem, Route};
+use plan_types::{OutOfMemory, Problem, Route};
 use route_sched::plan_cost;
 use sector_disk::Sectors;
 use sol_text::Solution;
@@ -58,7 +59,7 @@ pub(crate) fn timetable_files<F: ReadFiles, W: Write, E: Write>(
     ensures status { IfOk result (λ status. status ≤ 4) }
     ensures reads { AreReadInTurn paths.entry.instance.now paths.entry.solution.now
         (F.reads files.old) (F.reads files.new) }
-    ensures reported { IfOk result (TimetablesFiles paths.entry.kind form paths.entry.instance.now
+    ensures reported { IfOk result (TimetablesFiles paths.entry.format form paths.entry.instance.now
         paths.entry.solution.now (F.reads files.old) (F.reads files.new)
         (W.contents output.old) (W.contents output.new)
         (E.contents errors.old) (E.contents errors.new)) }
@@ -67,7 +68,7 @@ pub(crate) fn timetable_files<F: ReadFiles, W: Write, E: Write>(
         Ok(both) => both,
         Err(unread) => return print_read_failure(output, unread.path, unread.kind),
     };
-    let reported = timetable_texts(alloc, paths.kind, form, &both.0, &both.1);
+    let reported = timetable_texts(alloc, paths.format, form, &both.0, &both.1);
     print_timetable(&reported, output, errors)
 }
 
@@ -93,17 +94,17 @@ fn print_timetable<W: Write, E: Write>(
 // Audits a solution against an instance, and builds the timetable.
 fn timetable_texts(
     alloc: Global,
-    kind: Kind,
+    format: Format,
     form: Form,
     instance: &[u8],
     solution: &[u8],
 ) -> Result<TimetableReport, OutOfMemory>
     ensures answer { IfOk result (λ reported.
-        IsPlanAnswer kind instance.now solution.now reported.explanation.answer) }
-    ensures tells { IfOk result (IsTimetable kind form instance.now solution.now) }
+        IsPlanAnswer format instance.now solution.now reported.explanation.answer) }
+    ensures tells { IfOk result (IsTimetable format form instance.now solution.now) }
     ensures status { IfOk result (λ reported. reported.explanation.answer.status ≤ 2) }
 {
-    match examine_plan(alloc, kind, instance, solution)? {
+    match examine_plan(alloc, format, instance, solution)? {
         PlanExamination::Whole(examined) => whole_report(alloc, form, &examined),
         PlanExamination::Partial(partial) => partial_report(alloc, form, &partial),
     }

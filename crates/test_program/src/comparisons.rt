@@ -1,6 +1,7 @@
 //! Comparisons with best-known costs: `BestKnown` of `auditor_cli`.
 
 use auditor_cli::BestKnown;
+use instance_read::Format;
 use plan_types::{Cost, Kind};
 use std::alloc::{AllocError, Global};
 use std::process::Abort;
@@ -59,7 +60,7 @@ fn compared(alloc: Global, comparison: &Comparison) -> Result<bool, AllocError> 
         vehicles,
         distance,
     };
-    match BestKnown::read(kind, column.as_bytes()) {
+    match BestKnown::read(Format::of_kind(kind), column.as_bytes()) {
         Some(best) => Ok(best.comparison(alloc, cost)?.as_str() == wanted),
         None => Ok(false),
     }
@@ -102,7 +103,7 @@ const REFUSED: [(Kind, &str); 16] = [
 fn check_refused<R: Abort>(rt: &R, columns: &[(Kind, &str)]) {
     for (kind, column) in columns {
         assert!(rt;
-            BestKnown::read(*kind, column.as_bytes()).is_none(),
+            BestKnown::read(Format::of_kind(*kind), column.as_bytes()).is_none(),
             "{column}"
         );
     }

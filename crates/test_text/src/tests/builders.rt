@@ -1,6 +1,6 @@
 //! Inputs and problems that more than one of the examples uses.
 
-use instance_read::{ReadFault, read_lilim, read_vrp};
+use instance_read::{Format, ReadFault};
 use plan_types::{Kind, Problem};
 use std::alloc::{AllocError, Global};
 
@@ -10,10 +10,7 @@ pub const ONE_PAIR: &[u8] =
 
 /// Reads an instance in the format of this kind.
 pub fn read_instance(alloc: Global, kind: Kind, text: &[u8]) -> Result<Problem, ReadFault> {
-    match kind {
-        Kind::LiLim => read_lilim(alloc, text),
-        Kind::Vrp => read_vrp(alloc, text),
-    }
+    instance_read::read_instance(alloc, Format::of_kind(kind), text)
 }
 
 /// The form of numbered lines, which count from 1.

@@ -1,8 +1,8 @@
 //! Problems written as instances, after requests were withdrawn.
 
-use crate::tests::builders::read_instance;
+use instance_read::{Format, Layout, read_instance};
 use instance_text::{WriteFault, write_instance};
-use plan_types::{Kind, Problem};
+use plan_types::Problem;
 use std::alloc::Global;
 use test_examples::THREE_CUSTOMERS;
 
@@ -28,6 +28,37 @@ const TWO_PAIRS: &[u8] = b"3 20 1
 
 const NO_PAIRS: &[u8] = b"3 20 1\n0 0 0 0 0 900 0 0 0\n";
 
+/// Three customers in Solomon's format. The numbers have gaps, and the depot a demand and a service.
+const THREE_SINGLES: &[u8] = b"R101
+
+VEHICLE
+NUMBER     CAPACITY
+  25         200
+CUSTOMER
+CUST NO.   XCOORD.   YCOORD.   DEMAND   READY TIME   DUE DATE   SERVICE TIME
+0 35 35 5 0 230 7
+1 41 49 10 161 171 10
+4 -3 4.0 0 50 60 0
+100 18 18 17 185 195 10
+";
+
+/// That instance without its second customer.
+const TWO_SINGLES: &[u8] = b"planner
+
+VEHICLE
+NUMBER CAPACITY
+25 200
+
+CUSTOMER
+CUST NO. XCOORD. YCOORD. DEMAND READY TIME DUE DATE SERVICE TIME
+
+0 35 35 0 0 230 0
+1 41 49 10 161 171 10
+100 18 18 17 185 195 10
+";
+
+const NO_SINGLES: &[u8] = b"25 200 1\n0 35 35 0 0 230 0 0 0\n";
+
 /// Two of the three customers.
 const TWO_CUSTOMERS: &[u8] = b"NAME : planner
 TYPE : CVRP
@@ -50,16 +81,20 @@ EOF
 
 /// Instances, the requests that are withdrawn, and the instance that is written; it is empty if the format
 /// can't express the rest.
-const WRITTEN: [(Kind, &[u8], &[u32], &[u8]); 8] = [
-    (Kind::LiLim, THREE_PAIRS, &[3], TWO_PAIRS),
-    (Kind::LiLim, THREE_PAIRS, &[5, 3, 1], NO_PAIRS),
-    (Kind::LiLim, TWO_PAIRS, &[], TWO_PAIRS),
-    (Kind::LiLim, NO_PAIRS, &[], NO_PAIRS),
-    (Kind::Vrp, THREE_CUSTOMERS, &[3], TWO_CUSTOMERS),
-    (Kind::Vrp, TWO_CUSTOMERS, &[], TWO_CUSTOMERS),
+const WRITTEN: [(Layout, &[u8], &[u32], &[u8]); 11] = [
+    (Layout::LiLim, THREE_PAIRS, &[3], TWO_PAIRS),
+    (Layout::LiLim, THREE_PAIRS, &[5, 3, 1], NO_PAIRS),
+    (Layout::LiLim, TWO_PAIRS, &[], TWO_PAIRS),
+    (Layout::LiLim, NO_PAIRS, &[], NO_PAIRS),
+    (Layout::Solomon, THREE_SINGLES, &[4], TWO_SINGLES),
+    (Layout::Solomon, TWO_SINGLES, &[], TWO_SINGLES),
+    // Without requests, the text is one in Li and Lim's format.
+    (Layout::Solomon, THREE_SINGLES, &[1, 4, 100], NO_SINGLES),
+    (Layout::Vrp, THREE_CUSTOMERS, &[3], TWO_CUSTOMERS),
+    (Layout::Vrp, TWO_CUSTOMERS, &[], TWO_CUSTOMERS),
     // A gap in the numbers, and no stop at all.
-    (Kind::Vrp, THREE_CUSTOMERS, &[2], b""),
-    (Kind::Vrp, THREE_CUSTOMERS, &[1, 2, 3], b""),
+    (Layout::Vrp, THREE_CUSTOMERS, &[2], b""),
+    (Layout::Vrp, THREE_CUSTOMERS, &[1, 2, 3], b""),
 ];
 
 // Withdraws these requests.
@@ -78,8 +113,8 @@ fn is_written_as(alloc: Global, problem: &Problem, wanted: &[u8]) -> bool {
 }
 
 // Returns whether the problem of an instance is written as this text after these requests are withdrawn.
-fn is_left_as(alloc: Global, kind: Kind, text: &[u8], names: &[u32], wanted: &[u8]) -> bool {
-    match read_instance(alloc, kind, text) {
+fn is_left_as(alloc: Global, layout: Layout, text: &[u8], names: &[u32], wanted: &[u8]) -> bool {
+    match read_instance(alloc, Format { layout }, text) {
         Ok(mut problem) => {
             withdraw(&mut problem, names);
             is_written_as(alloc, &problem, wanted)
@@ -90,7 +125,7 @@ fn is_left_as(alloc: Global, kind: Kind, text: &[u8], names: &[u32], wanted: &[u
 
 #[test]
 fn writes_instances(rt: HostRuntime) {
-    for (kind, text, names, wanted) in &WRITTEN {
-        assert!(rt; is_left_as(rt.alloc(), *kind, text, names, wanted));
+    for (layout, text, names, wanted) in &WRITTEN {
+        assert!(rt; is_left_as(rt.alloc(), *layout, text, names, wanted));
     }
 }

@@ -7,4 +7,4 @@ use Rattle.auditor_cli.proofs.audit.audit_both_routes.Goals as goal
 pub returns-clause-answer : goal.returns-clause-answer
 returns-clause-answer c =
     IfOk-weaker c.answer_of.result _ _
-    (λ answer reported. answer_is true c.args.kind c.args.instance.now c.args.solution.now c.in_ok-examined.examined answer c.in_ok-examined.ensures reported) c.answer_of.ensures
+    (λ answer reported. answer_is true c.args.format c.args.instance.now c.args.solution.now c.in_ok-examined.examined answer c.in_ok-examined.ensures reported) c.answer_of.ensures

@@ -6,4 +6,4 @@ use Rattle.auditor_cli.proofs.audit.examine_routes.Goals as goal
 
 pub returns : goal.returns
 returns c =
-    subst (λ text. IfOk c.examine_for_routes.result (AreExaminedForRoutes c.args.kind c.args.instance.now text)) (c.deref.ensures.value ∙ c.in_ok-text.ensures.value) c.examine_for_routes.ensures
+    subst (λ text. IfOk c.examine_for_routes.result (AreExaminedForRoutes c.args.format c.args.instance.now text)) (c.deref.ensures.value ∙ c.in_ok-text.ensures.value) c.examine_for_routes.ensures

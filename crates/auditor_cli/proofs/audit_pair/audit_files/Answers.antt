@@ -14,7 +14,7 @@ returns-in-Err-clause-reported g c =
     let kind = c.in-Err.unread.kind in
     IfOk-weaker c.print_read_failure.result _ _
     (λ status reported. (
-      unread_reported (IsAnswerBy c.args.routes_alone c.args.paths.kind) c.args.paths.instance.now c.args.paths.solution.now _ _ _ _ status path kind c.in-Err.ensures reported,
+      unread_reported (IsAnswerBy c.args.routes_alone c.args.paths.format) c.args.paths.instance.now c.args.paths.solution.now _ _ _ _ status path kind c.in-Err.ensures reported,
       inr (path, kind, c.in-Err.ensures, Appends-nil (g.E.Write.contents c.args.errors.now)),
     ))
     c.print_read_failure.ensures
@@ -31,13 +31,13 @@ returns-in-Ok-clause-reported g c =
     let is_y : y ≡ both.1.items = c.deref-in-Ok.ensures.value in
     IfOk-weaker c.print_both.result _ _
     (λ status reported. (
-      texts_reported (IsAnswerBy c.args.routes_alone paths.kind) paths.instance.now paths.solution.now _ _ _ _ status both.0.items both.1.items x y is_x is_y c.in-Ok.ensures reported.0,
+      texts_reported (IsAnswerBy c.args.routes_alone paths.format) paths.instance.now paths.solution.now _ _ _ _ status both.0.items both.1.items x y is_x is_y c.in-Ok.ensures reported.0,
       inl (
         both.0.items,
         both.1.items,
         c.in-Ok.ensures,
-        subst (λ t. Appends before after (ignored_line_note paths.solution.now both.1.items ++ ignored_limit_note paths.kind paths.instance.now t)) is_x
-            (subst (λ t. Appends before after (ignored_line_note paths.solution.now t ++ ignored_limit_note paths.kind paths.instance.now x)) is_y reported.1),
+        subst (λ t. Appends before after (ignored_line_note paths.solution.now both.1.items ++ ignored_limit_note paths.format paths.instance.now t)) is_x
+            (subst (λ t. Appends before after (ignored_line_note paths.solution.now t ++ ignored_limit_note paths.format paths.instance.now x)) is_y reported.1),
       ),
     ))
     c.print_both.ensures.reported

@@ -30,7 +30,7 @@ returns-clause-reported g c = λ answered counted.
     IfOk-weaker c.compare_files.result _ _
     (λ status reported. (
       pair_text instance solution reported.0.0,
-      reported_of_listed c.args.asked.routes_alone c.args.asked.kind pair.paths.kind c.in-Some.ensures.0 c.args.asked.path.now c.args.line.now instance solution
+      reported_of_listed c.args.asked.routes_alone c.args.asked.format pair.paths.format c.in-Some.ensures.0 c.args.asked.path.now c.args.line.now instance solution
           pair.best c.in-Some.ensures.1 was now reported.0.0 status counted reported.0.1 reported.1,
       reported_of_pair instance solution reported.0.0 before mid _ wrote reported.0.2,
     )) c.compare_files.ensures.reported

@@ -8,7 +8,7 @@ pub loop-line-init : goal.loop-line-init
 loop-line-init g c =
     let before = g.W.Write.contents c.args.output.now in
     let was = list_state (g.F.ReadFiles.reads c.args.files.now) (g.E.Write.contents c.args.errors.now) c.args.answered.now in
-    let is_told = IsAudited c.args.asked.routes_alone c.args.asked.kind c.args.asked.path.now in
+    let is_told = IsAudited c.args.asked.routes_alone c.args.asked.format c.args.asked.path.now in
     let same : c.args.lines ≡ c.into_iter-line-iterator.result = search rules in
     (left_as _ _ _ _ was before c.args.lines c.into_iter-line-iterator.result 0 same (nothing_reported is_told c.args.lines was before), omega arith, ([], refl))
 
@@ -21,7 +21,7 @@ loop-line-preserved g c =
     let was = list_state (g.F.ReadFiles.reads c.args.files.now) (g.E.Write.contents c.args.errors.now) c.args.answered.now in
     let next = list_state (g.F.ReadFiles.reads c.loop-line.files) (g.E.Write.contents c.loop-line.errors) c.loop-line.answered in
     let later = list_state (g.F.ReadFiles.reads c.audit_line.new.files) (g.E.Write.contents c.audit_line.new.errors) c.next_number-number.result in
-    let is_told = IsAudited c.args.asked.routes_alone c.args.asked.kind c.args.asked.path.now in
+    let is_told = IsAudited c.args.asked.routes_alone c.args.asked.format c.args.asked.path.now in
     let rest = c.next.new.self in
     let line = c.in-Some.line.now in
     let status = c.in_ok-status.status in

@@ -19,7 +19,7 @@ returns-in-Err-clause-reported g c =
     IfOk-weaker c.print_read_failure.result _ _
     (λ status reported. (
       0,
-      unopened c.args.routes_alone c.args.kind path _ _ before after (error_kind c.in-Err.error) status (ap (λ files. list_state files errors 0) c.in-Err.ensures)
+      unopened c.args.routes_alone c.args.format path _ _ before after (error_kind c.in-Err.error) status (ap (λ files. list_state files errors 0) c.in-Err.ensures)
           (subst (λ kind. PrintsReadFailure path kind before after status) c.kind.ensures reported),
     ))
     c.print_read_failure.ensures

@@ -28,7 +28,7 @@ returns-in-Err-clause-reported g c =
     IfOk-weaker c.print_list_failure.result _ _
     (λ status reported. (
       c.loop.answered,
-      broken_off c.args.asked.routes_alone c.args.asked.kind path was before next later now after c.loop.greatest c.loop.invariant.0 c.kind.result status noted reported.0 reported.1,
+      broken_off c.args.asked.routes_alone c.args.asked.format path was before next later now after c.loop.greatest c.loop.invariant.0 c.kind.result status noted reported.0 reported.1,
     ))
     c.print_list_failure.ensures.reported
 
@@ -51,7 +51,7 @@ returns-then-not-ends_at_feed-clause-reads g c =
 pub returns-then-not-ends_at_feed-clause-reported : goal.returns-then-not-ends_at_feed-clause-reported
 returns-then-not-ends_at_feed-clause-reported g c =
     let a = c.args.asked.routes_alone in
-    let k = c.args.asked.kind in
+    let k = c.args.asked.format in
     let path = c.args.asked.path.now in
     let line = c.in-Ok.line.items in
     let errors = g.E.Write.contents c.loop.errors in
@@ -66,7 +66,7 @@ returns-then-not-ends_at_feed-clause-reported g c =
 pub loop-preserved : goal.loop-preserved
 loop-preserved g c =
     let a = c.args.asked.routes_alone in
-    let k = c.args.asked.kind in
+    let k = c.args.asked.format in
     let path = c.args.asked.path.now in
     let line = c.in-Ok.line.items in
     let errors = g.E.Write.contents c.loop.errors in

@@ -6,7 +6,7 @@ use Rattle.auditor_cli.proofs.audits.audit_opened.Given as goal
 
 abbrev pub invariant-loop : goal.invariant-loop
 invariant-loop g l =
-    IsSoFar l.fn.asked.routes_alone l.fn.asked.kind l.fn.asked.path.now
+    IsSoFar l.fn.asked.routes_alone l.fn.asked.format l.fn.asked.path.now
     (list_state (g.F.ReadFiles.reads l.fn.files) (g.E.Write.contents l.fn.errors) 0) (g.W.Write.contents l.fn.output)
     (list_state (g.F.ReadFiles.reads l.files) (g.E.Write.contents l.errors) l.answered) (g.W.Write.contents l.output) l.greatest
     × (l.greatest ≤ 4)

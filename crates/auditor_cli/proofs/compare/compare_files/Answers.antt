@@ -15,7 +15,7 @@ returns-in-Err-clause-reported g c =
     let kind = c.in-Err.unread.kind in
     IfOk-weaker c.print_read_failure.result _ _
     (λ status reported. (
-      unread_reported (IsListedAnswer c.args.routes_alone pair.paths.kind pair.best) pair.paths.instance.now pair.paths.solution.now _ _ _ _ status path kind c.in-Err.ensures reported,
+      unread_reported (IsListedAnswer c.args.routes_alone pair.paths.format pair.best) pair.paths.instance.now pair.paths.solution.now _ _ _ _ status path kind c.in-Err.ensures reported,
       inr (path, kind, c.in-Err.ensures, Appends-nil (g.E.Write.contents c.args.errors.now)),
     ))
     c.print_read_failure.ensures
@@ -31,7 +31,7 @@ returns-in-Ok-clause-reported g c =
     IfOk-weaker c.print_listed.result _ _
     (λ status reported. (
       texts_reported
-          (IsListedAnswer c.args.routes_alone pair.paths.kind pair.best) pair.paths.instance.now pair.paths.solution.now _ _ _ _ status both.0.items both.1.items x y is_x is_y c.in-Ok.ensures reported.0,
+          (IsListedAnswer c.args.routes_alone pair.paths.format pair.best) pair.paths.instance.now pair.paths.solution.now _ _ _ _ status both.0.items both.1.items x y is_x is_y c.in-Ok.ensures reported.0,
       inl (
         both.0.items,
         both.1.items,

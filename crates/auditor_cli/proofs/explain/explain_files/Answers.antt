@@ -35,15 +35,15 @@ returns-in-Ok-clause-reported g c =
         y = both.1.items;
         read = c.in-Ok.ensures;
         texts =
-            subst (λ t. ExplainsTexts c.args.routes_alone paths.kind t both.1.items reported_before reported_after status) is_x
-            (subst (λ t. ExplainsTexts c.args.routes_alone paths.kind x t reported_before reported_after status) is_y reported.0);
+            subst (λ t. ExplainsTexts c.args.routes_alone paths.format t both.1.items reported_before reported_after status) is_x
+            (subst (λ t. ExplainsTexts c.args.routes_alone paths.format x t reported_before reported_after status) is_y reported.0);
       }),
       inl (
         both.0.items,
         both.1.items,
         c.in-Ok.ensures,
-        subst (λ t. Appends before after (ignored_line_note paths.solution.now both.1.items ++ ignored_limit_note paths.kind paths.instance.now t)) is_x
-            (subst (λ t. Appends before after (ignored_line_note paths.solution.now t ++ ignored_limit_note paths.kind paths.instance.now x)) is_y reported.1),
+        subst (λ t. Appends before after (ignored_line_note paths.solution.now both.1.items ++ ignored_limit_note paths.format paths.instance.now t)) is_x
+            (subst (λ t. Appends before after (ignored_line_note paths.solution.now t ++ ignored_limit_note paths.format paths.instance.now x)) is_y reported.1),
       ),
     ))
     c.print_both.ensures.reported

@@ -4,5 +4,5 @@ use Rattle.command_text.proofs.instances.read_instance.Goals as goal
 
 pub returns : goal.returns
 returns c reading is =
-    read_once c.args.kind c.args.text.now c.read_instance.result
-    (reading.instance c.args.kind c.args.text.now) c.read_instance.ensures.value c.read_instance.ensures.fault (is.instances c.args.kind c.args.text.now)
+    read_once c.args.format c.args.text.now c.read_instance.result
+    (reading.instance c.args.format c.args.text.now) c.read_instance.ensures.value c.read_instance.ensures.fault (is.instances c.args.format c.args.text.now)

@@ -20,7 +20,7 @@ returns-in-Err-clause-reported g c =
 
 pub returns-clause-reported : goal.returns-clause-reported
 returns-clause-reported g c =
-    let kind = c.args.paths.kind in
+    let kind = c.args.paths.format in
     let route = c.args.route in
     let both = c.in-Ok.both in
     let drawn = c.draw_texts-drawn.result in

@@ -28,10 +28,10 @@ returns-clause-reported g c =
     let task = c.args.task in
     let errors = g.E.Write.contents c.args.errors.now in
     let noted = g.E.Write.contents c.print_ignored_limit.new.errors in
-    let limit = subst (λ x. Appends errors noted (ignored_limit_note task.kind task.instance.now x)) c.deref.ensures.value c.in_ok-print_ignored_limit.ensures in
+    let limit = subst (λ x. Appends errors noted (ignored_limit_note task.format task.instance.now x)) c.deref.ensures.value c.in_ok-print_ignored_limit.ensures in
     let found = c.solve-solved.result in
     let searched = g.E.Write.contents c.solve-solved.new.progress in
-    let solves = subst (λ x. MatchResult found (IsSolved task.kind x task.seed task.steps task.deviation noted searched) (Fails task.kind x noted searched)) c.deref-2.ensures.value
+    let solves = subst (λ x. MatchResult found (IsSolved task.format x task.seed task.steps task.deviation noted searched) (Fails task.format x noted searched)) c.deref-2.ensures.value
     c.solve-solved.ensures in
     IfOk-weaker c.print_solve_result-reported.result _ _
     (λ status reported. inl (c.in-Ok.text.items, noted, c.in-Ok.ensures, limit, record { found = found; searched = searched; solves = solves; reported = reported })) c.print_solve_result-reported.ensures.reported

@@ -15,7 +15,7 @@ returns-in-Err-clause-reported g c =
 
 pub returns-clause-reported : goal.returns-clause-reported
 returns-clause-reported g c =
-    let kind = c.args.paths.kind in
+    let kind = c.args.paths.format in
     let both = c.in-Ok.both in
     let made = c.timetable_texts-reported.result in
     let answers = subst (λ x. IfOk made (λ e. IsPlanAnswer kind x both.1.items e.explanation.answer)) c.deref.ensures.value

@@ -6,5 +6,5 @@ use Rattle.planner_cli.proofs.timetable.timetable_texts.Goals as goal
 
 pub partial_report-requires : goal.partial_report-requires
 partial_report-requires c =
-    partial_live c.args.kind c.args.instance.now c.args.solution.now c.in-Partial.partial
-    (subst (IsPlanExamined c.args.kind c.args.instance.now c.args.solution.now) c.in-Partial.is c.in_ok-examined.ensures)
+    partial_live c.args.format c.args.instance.now c.args.solution.now c.in-Partial.partial
+    (subst (IsPlanExamined c.args.format c.args.instance.now c.args.solution.now) c.in-Partial.is c.in_ok-examined.ensures)

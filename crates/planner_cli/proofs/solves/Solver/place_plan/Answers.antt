@@ -8,7 +8,7 @@ use Rattle.planner_cli.proofs.solves.Solver.place_plan.Goals as goal
 pub returns-in-Ok-clause-does : goal.returns-in-Ok-clause-does
 returns-in-Ok-clause-does g c = record {
   kept = c.write_plan.ensures.does.kept;
-  reported = IfOk-weaker c.write_plan.result _ _ (λ status reported. reported c.args.self.now.tasks.kind c.args.instance.now c.in-Ok.ensures.audited) c.write_plan.ensures.does.reported;
+  reported = IfOk-weaker c.write_plan.result _ _ (λ status reported. reported c.args.self.now.tasks.format c.args.instance.now c.in-Ok.ensures.audited) c.write_plan.ensures.does.reported;
 }
 
 pub returns-in-Err-clause-does : goal.returns-in-Err-clause-does

@@ -38,7 +38,7 @@ returns-clause-does g c =
     let finds = subst (λ t. Finds tasks t found) c.deref-2.ensures.value c.find-found.ensures in
     let errors = g.E.Write.contents c.args.errors.now in
     let noted = g.E.Write.contents c.print_ignored_limit.new.errors in
-    let limit = subst (λ t. Appends errors noted (ignored_limit_note tasks.kind instance t)) c.deref.ensures.value c.in_ok-print_ignored_limit.ensures in
+    let limit = subst (λ t. Appends errors noted (ignored_limit_note tasks.format instance t)) c.deref.ensures.value c.in_ok-print_ignored_limit.ensures in
     record {
       kept = (((instance, Ok x) ∷ [], c.in-Ok.ensures), c.place-reported.ensures.does.kept);
       reported = IfOk-weaker c.place-reported.result _ _
@@ -50,7 +50,7 @@ returns-clause-does g c =
               limit = limit;
               found = found;
               finds = finds;
-              placed = subst (λ t. IsPlaced tasks.kind t c.args.path.now found made left reported.0 status) c.deref-3.ensures.value reported.1;
+              placed = subst (λ t. IsPlaced tasks.format t c.args.path.now found made left reported.0 status) c.deref-3.ensures.value reported.1;
             })),
             reported.2,
           )) c.place-reported.ensures.does.reported;
