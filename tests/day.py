@@ -1058,8 +1058,9 @@ def check_store_commands(folder):
 def check_outage(folder, town, alone):
     """Checks what `out` prints for the van of the small table, with other columns, quotes and separators."""
     small = os.path.join(folder, "small.csv")
-    for van, time in ("2", "8:05"), ("1", "8:30"):
-        told = f"NothingDone 11: van {van} has delivered nothing by {time}; give its sheet to an idle van"
+    delivered_nothing, no_sheet = "has delivered nothing by 8:05; give its sheet to an idle van", "has no sheet in this plan"
+    for van, time, words in ("2", "8:05", delivered_nothing), ("1", "8:30", no_sheet), ("x", "8:30", no_sheet):
+        told = f"NothingDone 11: van {van} {words}"
         refused("out of a van without deliveries", "timetable", ["out", town, small, van, alone, time], told)
     # The van is free at 8:08:44, and needs 55 seconds home. At 8:40 it can't be busy for half an hour more.
     for time, now, window, minutes in ("8:07", 29220, "8:07,8:38", 20), ("8:10", 29400, "8:10,8:40", 19), ("8:40", 31200, "8:40,9:00", 0):

@@ -212,6 +212,16 @@ def check_seeds(folder):
     print("readme: instances and seeds")
 
 
+def check_published(folder):
+    """Checks the shown table of a whole set, made with fewer steps, without its steps, gaps, seconds and count."""
+    os.symlink(TOP / "bench", os.path.join(folder, "bench"))
+    commands, shown = block("bench/published.py --steps")
+    printed = re.sub(r"\b2000 steps", "100000 steps", run(folder, commands))
+    printed, *shown = (re.sub(r" +", " ", re.sub(r"-?\d+\.\d+|^\d+(?= of )", "N", text, flags=re.MULTILINE)) for text in [printed, *shown])
+    holds("a whole set", printed.lstrip("\n"), shown)
+    print("readme: published costs of a whole set")
+
+
 def check_solves(folder):
     copies(folder, ["lc101", "lc102"], [".txt"])
     answers = run(folder, block("for it in pdp_100")[0]).splitlines()
@@ -224,7 +234,7 @@ def main():
     with tempfile.TemporaryDirectory() as above:
         begun = begin_readme(above)
         try:
-            for check in [check_sheet, check_as_shown, check_killed, check_lists, check_best_known, check_solves, check_seeds]:
+            for check in [check_sheet, check_as_shown, check_killed, check_lists, check_best_known, check_published, check_solves, check_seeds]:
                 check(new_folder(above, check.__name__))
             check_blocks()
             end_readme(begun)

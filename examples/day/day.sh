@@ -544,8 +544,8 @@ function print_outage(name,    n, k, stop, last) {
         if (is_delivered(stop_at[n, k]))
             last = k
     if (!last) {
-        refuse("timetable", "NothingDone", end_of["timetable"], "van " name " has delivered nothing by " clock_time(now) \
-            "; give its sheet to an idle van")
+        refuse("timetable", "NothingDone", end_of["timetable"], "van " name (n ? " has delivered nothing by " clock_time(now) \
+            "; give its sheet to an idle van" : " has no sheet in this plan"))
         return
     }
     print "unpin " van[n]

@@ -1,0 +1,2 @@
+-- the definitions in public contracts
+pub mod Bred
