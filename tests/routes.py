@@ -21,6 +21,9 @@ from planner import fail, outcome, require_program  # noqa: E402
 SEED, PLANS = 59, 500
 ENDS = ["", "Cost 1\n", "Cost 8.5\n", "cost: any\nRoute #9: 1\n", "\n\n"]
 LATEST = 10**8
+# The kinds, and those with time windows.
+KINDS = ("lilim", "solomon", "vrp")
+TIMED = ("lilim", "solomon")
 
 
 class Stop:
@@ -38,7 +41,7 @@ class Instance:
         self.stops, self.partner, self.requests = {0: depot}, {}, {}
 
     def text(self):
-        return self.lilim() if self.kind == "lilim" else self.vrp()
+        return {"lilim": self.lilim, "solomon": self.solomon, "vrp": self.vrp}[self.kind]()
 
     def lilim(self):
         lines = [f"{self.fleet} {self.capacity} 1"]
@@ -46,6 +49,12 @@ class Instance:
             other = self.partner.get(number, 0)
             pickup, delivery = (0, other) if number in self.requests else (other, 0)
             lines.append(f"{number} {it.at[0]} {it.at[1]} {it.demand} {it.earliest} {it.latest} {it.service} {pickup} {delivery}")
+        return "\n".join(lines) + "\n"
+
+    def solomon(self):
+        lines = ["random", "VEHICLE", "NUMBER CAPACITY", f"{self.fleet} {self.capacity}", "CUSTOMER", "CUST NO. XCOORD."]
+        for number, it in sorted(self.stops.items()):
+            lines.append(f"{number} {it.at[0]} {it.at[1]} {it.demand} {it.earliest} {it.latest} {it.service}")
         return "\n".join(lines) + "\n"
 
     def vrp(self):
@@ -88,7 +97,7 @@ def broken(instance, routes):
     yield [(5, r, p, stop) for r, p, stop, other in partners if stop not in instance.requests and positions[other][1] > p]
     loads = [(r, p, stop, sum(instance.stops[it].demand for it in routes[r - 1][:p])) for r, p, stop in places]
     yield [(6, r, p, stop) for r, p, stop, load in loads if load > instance.capacity]
-    if instance.kind == "lilim":
+    if instance.kind in TIMED:
         times = {r: starts(instance, route) for r, route in enumerate(routes, 1)}
         yield [(7, r, p, stop) for r, p, stop in places if times[r][p - 1] > instance.stops[stop].latest]
         yield [(8, r, len(route) + 1, 0) for r, route in enumerate(routes, 1) if route and times[r][-1] > instance.stops[0].latest]
@@ -107,20 +116,29 @@ def verdict(instance, routes):
         if found:
             rule, route, place, stop = min(found)
             return f"broken {rule} route {route} place {place} stop {stop}"
-    vehicles = sum(1 for route in routes if route) if instance.kind == "lilim" else 0
+    vehicles = sum(1 for route in routes if route) if instance.kind in TIMED else 0
     return f"pass 0 {vehicles} {driven(instance, routes)}"
 
 
 def some_instance(draw, kind):
     size = draw.choice([20, 60, 1000])
     capacity = draw.randint(8, 30)
-    day = draw.choice([2, 8, 30]) * size if kind == "lilim" else LATEST
+    day = draw.choice([2, 8, 30]) * size if kind in TIMED else LATEST
     point = lambda: (draw.randint(-size, size), draw.randint(-size, size))
     instance = Instance(kind, capacity, Stop(point(), latest=day))
     if kind == "vrp":
         instance.fleet = draw.randint(1, 12)
         for number in range(1, instance.fleet + 1):
             instance.stops[number] = Stop(point(), draw.randint(0, capacity))
+            instance.requests[number] = [number]
+        return instance
+    if kind == "solomon":
+        customers = draw.randint(1, 12)
+        instance.fleet = draw.randint(1, customers + 1)
+        for number in draw.sample(range(1, 2 * customers + 1), customers):
+            earliest = draw.choice([0, draw.randint(0, day // 2)])
+            latest = draw.choice([day, draw.randint(earliest, day)])
+            instance.stops[number] = Stop(point(), draw.randint(0, capacity), earliest, latest, draw.randint(0, size // 4))
             instance.requests[number] = [number]
         return instance
     pairs = draw.randint(1, 6)
@@ -191,7 +209,7 @@ def main():
     require_program()
     draw = random.Random(seed)
     rules = set()
-    for kind in ("lilim", "vrp"):
+    for kind in KINDS:
         texts, wanted, passing = [], [], []
         for _ in range(plans):
             instance = some_instance(draw, kind)
@@ -209,7 +227,7 @@ def main():
             compare(f"{kind} by seed {seed}", audited(folder, kind, texts, "routes"), wanted)
             true_costs = audited(folder, kind, [pair[:2] for pair in passing])
             compare(f"{kind} by seed {seed}, with its true cost", true_costs, [told for _, _, told in passing])
-    print(f"routes: {2 * plans} random plans are judged as RULES says; the broken rules were {' '.join(sorted(rules))}")
+    print(f"routes: {len(KINDS) * plans} random plans are judged as RULES says; the broken rules were {' '.join(sorted(rules))}")
 
 
 if __name__ == "__main__":
