@@ -14,7 +14,7 @@ use std::alloc::AllocError;
 pub(crate) enum StopLine {
     /// A task with all fields of the stop, in Li and Lim's format.
     Task,
-    /// The same without the other stop of its pair, in Solomon's format.
+    /// A task without the other stop of its pair, in Solomon's format.
     Customer,
     /// The coordinates of a node, in CVRPLIB's format.
     Node,
