@@ -2,7 +2,7 @@
 use Rattle.std.specs.Prelude.{◌≡◌, ℕ, zero, suc, ◌+◌, ◌-◌, ◌*◌, ◌/◌, ◌<◌, ◌≤◌, nat_lt, ◌==◌, min, if◌then◌else◌, List, [], ◌∷◌, length, slice_index_or, Option, Some, None}
 use Rattle.plan_types.specs.Instance.{Instance, numbers_among}
 use Rattle.route_sched.specs.Cost.{total_length}
-use Rattle.plan_types.specs.Limits.{max_deviation}
+use Rattle.plan_types.specs.declared.limits.TheConstants.{MAX_DEVIATION}
 
 -- by stage, how much longer than the working plan a candidate may be, in hundredths of the incumbent's mean leg
 abbrev pub hundredths : List ℕ
@@ -30,7 +30,7 @@ stage_of from to n = if nat_lt n from then None else stage_among from to n 0 20
 abbrev pub mean_leg_share : Instance → List (List ℕ) → ℕ → ℕ
 mean_leg_share p routes c =
     let n = length (numbers_among p.requests) in
-    if n == 0 then 0 else min (total_length p routes * c / (100 * n)) max_deviation
+    if n == 0 then 0 else min (total_length p routes * c / (100 * n)) MAX_DEVIATION
 
 -- law: each step lies in its stage, which begins at or before the step and ends after it
 abbrev pub StagesHoldTheirSteps : Type 0

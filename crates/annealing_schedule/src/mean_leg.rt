@@ -4,7 +4,7 @@ ghost use Rattle.std.specs.Option.{option_map_or};
 ghost use Rattle.plan_types.specs.Instance.{numbers_among};
 ghost use Rattle.plan_types.specs.Request.{stops_of};
 ghost use Rattle.route_sched.specs.Route.{IsPlan};
-ghost use Rattle.plan_types.specs.Limits.{max_deviation};
+ghost use Rattle.plan_types.specs.declared.limits.TheConstants.{MAX_DEVIATION};
 ghost use Rattle.annealing_schedule.specs.Stages.{mean_leg_share};
 
 use plan_types::limits::MAX_DEVIATION;
@@ -17,7 +17,7 @@ use route_sched::plan_cost;
 pub fn mean_leg_share(problem: &Problem, plan: &Plan, hundredths: u32) -> u32
     requires { IsPlan problem.now plan.now.routes }
     ensures value { result ≡ mean_leg_share problem.now plan.now.routes hundredths }
-    ensures most { result ≤ max_deviation }
+    ensures most { result ≤ MAX_DEVIATION }
 {
     let stops = stop_count(problem);
     if stops == 0 {

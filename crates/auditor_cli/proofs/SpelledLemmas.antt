@@ -8,7 +8,7 @@ use Rattle.plan_audit.specs.declared.rules.Verdict.TheVariants.{Broken, Pass}
 use Rattle.route_sched.specs.Cost.{cost_of, total_length, used_count}
 use Rattle.plan_types.specs.Instance.{Instance, IsInstance}
 use Rattle.sol_text.specs.Faults.{Spells}
-use Rattle.sol_text.specs.declared.read.Solution.{Solution}
+use Rattle.plan_types.specs.declared.solutions.Solution.{Solution}
 use Rattle.instance_read.specs.Readings.{SpellsInstance}
 use Rattle.instance_read.proofs.SpelledLemmas.{no_fault, problem_once}
 use Rattle.instance_read.specs.declared.formats.Format.{Format}

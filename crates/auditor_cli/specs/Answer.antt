@@ -9,7 +9,7 @@ use Rattle.instance_read.specs.declared.faults.ReadFault.{ReadFault}
 use Rattle.sol_text.specs.Faults as sol_faults
 use Rattle.sol_text.specs.Names as solution_names
 use Rattle.sol_text.specs.declared.faults.SolFault.{SolFault}
-use Rattle.sol_text.specs.declared.read.Solution.{Solution}
+use Rattle.plan_types.specs.declared.solutions.Solution.{Solution}
 use Rattle.plan_audit.specs.Verdict.{IsRoutesVerdict, IsVerdict, printed}
 use Rattle.plan_audit.specs.declared.rules.Verdict.{Verdict}
 use Rattle.plan_audit.specs.declared.rules.Verdict.TheVariants.{Broken, Pass}

@@ -8,7 +8,7 @@ use Rattle.instance_read.specs.Names as instance_names
 use Rattle.sol_text.specs.Faults as sol_faults
 use Rattle.sol_text.specs.Names as solution_names
 use Rattle.sol_text.specs.declared.faults.SolFault.{SolFault}
-use Rattle.sol_text.specs.declared.read.Solution.{Solution}
+use Rattle.plan_types.specs.declared.solutions.Solution.{Solution}
 use Rattle.instance_read.specs.Readings.{InstanceFault, SpellsInstance}
 use Rattle.instance_read.specs.declared.formats.Format.{Format}
 use Rattle.auditor_cli.specs.Answer.{IsSolutionVerdict, refused_answer, verdict_answer}

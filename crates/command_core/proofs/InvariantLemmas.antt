@@ -33,7 +33,7 @@ use Rattle.command_types.proofs.PassLemmas.{passes_same, all_feasible_same, numb
 use Rattle.fleet_reduction.proofs.PickedLemmas.{none_feasible}
 use Rattle.command_core.proofs.PinLemmas.{none_all_feasible, none_passes, set_all, unpinned_passes, pinned_passes}
 use Rattle.seeded_search.proofs.SearchLemmas.{placed_all_passes}
-use Rattle.plan_types.specs.Limits.{max_deviation}
+use Rattle.plan_types.specs.declared.limits.TheConstants.{MAX_DEVIATION}
 use Rattle.command_core.proofs.WithdrawLemmas.{pins_others, withdrawn_passes, pins_still_feasible}
 
 -- The laws of the crates below
@@ -213,7 +213,7 @@ module _ (laws : LowerLaws) (j : JobValue) (is : IsJob j) where
     pins = is.pins;
     plan = is.plan;
     work = is.plan;
-    deviation = leb-true d max_deviation (requested_last _ _ none);
+    deviation = leb-true d MAX_DEVIATION (requested_last _ _ none);
     seed = is.seed;
     steps = is.steps;
   }

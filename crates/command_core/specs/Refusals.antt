@@ -7,7 +7,7 @@ use Rattle.plan_types.specs.Cost.{cost_below}
 use Rattle.route_sched.specs.Cost.{cost_of, is_planned}
 use Rattle.plan_audit.specs.Passes.{feasible_alone, passes}
 use Rattle.move_ops.specs.Insertion.{request_named, route_of}
-use Rattle.plan_types.specs.Limits.{max_deviation}
+use Rattle.plan_types.specs.declared.limits.TheConstants.{MAX_DEVIATION}
 use Rattle.command_types.specs.Job.{JobValue}
 use Rattle.command_types.specs.AddedRequests.{is_spot, is_demand}
 use Rattle.command_types.specs.declared.states.State.{State}
@@ -53,7 +53,7 @@ steps_refusal most steps count =
     if not (nat_le 1 count && nat_le count most) then Some Range else if nat_le (steps + count) (2 ^ 60) then None else Some StepsSpent
 
 abbrev pub deviation_refusal : ℕ → Option Refusal
-deviation_refusal d = if nat_le d max_deviation then None else Some Range
+deviation_refusal d = if nat_le d MAX_DEVIATION then None else Some Range
 
 -- A plan costs more than another
 abbrev pub costs_more : Instance → List (List ℕ) → List (List ℕ) → Bool

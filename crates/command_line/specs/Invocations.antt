@@ -38,7 +38,7 @@ use Rattle.clap.specs.declared.error.kind.ErrorKind.{ErrorKind}
 use Rattle.instance_read.specs.Formats.{format_named}
 use Rattle.instance_read.specs.declared.formats.Format.{Format as InstanceFormat}
 use Rattle.text_lines.specs.Numbers.{below, digits_of, integer_of}
-use Rattle.plan_types.specs.Limits.{max_requested_steps, max_deviation}
+use Rattle.plan_types.specs.declared.limits.TheConstants.{MAX_REQUESTED_STEPS, MAX_DEVIATION}
 use Rattle.command_line.specs.declared.arguments.Paths.{Paths}
 use Rattle.command_line.specs.declared.arguments.Invocation.{Invocation}
 use Rattle.command_line.specs.declared.arguments.Invocation.TheVariants.{
@@ -145,7 +145,7 @@ invocation_value (StoreTimetable store is_tabbed) = store_timetable store.now is
 
 -- A number of steps, in digits only.
 abbrev pub steps_named : Text → Option ℕ
-steps_named word = below (max_requested_steps + 1) (digits_of word)
+steps_named word = below (MAX_REQUESTED_STEPS + 1) (digits_of word)
 
 -- A number, if a `u64` holds it.
 abbrev pub as_u64 : ℤ → Option ℕ
@@ -201,7 +201,7 @@ parsed_audits _ = None
 -- A deviation, in digits only, or `None` if this argument is missing.
 abbrev pub deviation_or_none : Option Text → Option (Option ℕ)
 deviation_or_none None = Some None
-deviation_or_none (Some word) = option_map (λ d. Some d) (below (max_deviation + 1) (digits_of word))
+deviation_or_none (Some word) = option_map (λ d. Some d) (below (MAX_DEVIATION + 1) (digits_of word))
 
 abbrev pub solve_from : Option InstanceFormat → Text → Option ℕ → Option ℕ → Option (Option ℕ) → Option SolveArgsValue
 solve_from kind instance steps seed deviation = do

@@ -5,7 +5,7 @@ use Rattle.std.specs.List.{list_all}
 use Rattle.std.proofs.lemmas.Bool.{and_parts, cases_Bool, le-leb, leb-true}
 use Rattle.std.proofs.lemmas.Bool.Decides.{leb_tells}
 use Rattle.std.proofs.lemmas.List.Sums.{sum_by-cons}
-use Rattle.plan_types.specs.Limits.{max_requested_steps}
+use Rattle.plan_types.specs.declared.limits.TheConstants.{MAX_REQUESTED_STEPS}
 use Rattle.command_types.specs.Commands.{is_searching, steps_of}
 use Rattle.command_core.specs.Effects.{searched}
 use Rattle.command_types.specs.Job.{JobValue}
@@ -94,7 +94,7 @@ module _ (one : RunsAreOneSearch) (add_up : SearchesAddUp) (n : ℕ) (room : n �
   left_by s = (steps_or_refusal s (steps_to_make s.state (goal.Reach n))).left.state
 
   abbrev is_requested : JobValue → Bool
-  is_requested j = nat_le n (j.steps + max_requested_steps)
+  is_requested j = nat_le n (j.steps + MAX_REQUESTED_STEPS)
 
   not_begun : (j : JobValue) (fates : List Fate) → is_requested j ≡ false → left_by (unbroken_session (Loaded j) fates) ≡ Loaded j
   not_begun j fates e = ap (λ b. (steps_or_refusal (unbroken_session (Loaded j) fates) (if b then Ok (makes.Search (n - j.steps)) else Err Range)).left.state) e
@@ -120,8 +120,8 @@ module _ (one : RunsAreOneSearch) (add_up : SearchesAddUp) (n : ℕ) (room : n �
       let made = sum_by steps_of (take cut.count cs) in
       let few : made ≤ n - j.steps = subst (λ (k : ℕ). made ≤ k) all.sum front.sum in
       let left : left_by (unbroken_session (Loaded j) fates) ≡ Loaded (searched j made) = is_begun j fates e ∙ cut.is ∙ one j (take cut.count cs) front.searching in
-      let requested = leb-true n (j.steps + max_requested_steps) e in
-      let still : is_requested (searched j made) ≡ true = le-leb n (j.steps + made + max_requested_steps) (omega (arith, requested)) in
+      let requested = leb-true n (j.steps + MAX_REQUESTED_STEPS) e in
+      let still : is_requested (searched j made) ≡ true = le-leb n (j.steps + made + MAX_REQUESTED_STEPS) (omega (arith, requested)) in
       let sum : made + (n - (j.steps + made)) ≡ n - j.steps = omega (arith, few) in
       ap (λ (s : State). left_by (unbroken_session s [])) left ∙ uncut (searched j made) still ∙ ap Loaded (add_up j made (n - (j.steps + made)))
       ∙ ap (λ k. Loaded (searched j k)) sum ∙ sym (uncut j e)

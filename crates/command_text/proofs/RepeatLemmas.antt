@@ -40,7 +40,7 @@ use Rattle.std.proofs.lemmas.Bool.{and_parts, cases_Bool, le-leb, leb-true}
 use Rattle.plan_types.specs.Instance.{Instance, numbers_among}
 use Rattle.route_sched.specs.Cost.{total_length}
 use Rattle.annealing_schedule.specs.Stages.{mean_leg_share}
-use Rattle.plan_types.specs.Limits.{max_requested_steps, max_deviation}
+use Rattle.plan_types.specs.declared.limits.TheConstants.{MAX_REQUESTED_STEPS, MAX_DEVIATION}
 use Rattle.command_types.specs.Commands.{changes_requests}
 use Rattle.command_core.specs.Effects.{effect, job_after, with_deviation}
 use Rattle.command_types.specs.Job.{JobValue}
@@ -156,10 +156,10 @@ grown (suc count) (c ∷ cs) j all =
     let more = r.steps in
     record { job = r.job; is = r.is; steps = omega (arith, counted, more) }
 
-share_most : (p : Instance) (routes : List (List ℕ)) (c : ℕ) → mean_leg_share p routes c ≤ max_deviation
+share_most : (p : Instance) (routes : List (List ℕ)) (c : ℕ) → mean_leg_share p routes c ≤ MAX_DEVIATION
 share_most p routes c = at (length (numbers_among p.requests) == 0)
   where
-    at : (b : Bool) → (if b then 0 else min (total_length p routes * c / (100 * length (numbers_among p.requests))) max_deviation) ≤ max_deviation
+    at : (b : Bool) → (if b then 0 else min (total_length p routes * c / (100 * length (numbers_among p.requests))) MAX_DEVIATION) ≤ MAX_DEVIATION
     at true = omega arith
     at false = omega arith
 
@@ -168,7 +168,7 @@ free_deviation j None d is = none_is d is
 free_deviation j (Some c) d is =
     let same = some_is (mean_leg_share j.problem j.plan c) d is in
     let most = share_most j.problem j.plan c in
-    let e = le-leb d max_deviation (omega (arith, same, most)) in
+    let e = le-leb d MAX_DEVIATION (omega (arith, same, most)) in
     rw e refl
 
 module _ (from to : ℕ) where
@@ -213,7 +213,7 @@ module _ (from to : ℕ) where
   left_by s = (steps_or_refusal s (steps_to_make s.state (goal.Stages from to))).left.state
 
   abbrev is_requested : JobValue → Bool
-  is_requested j = nat_le from j.steps && nat_le to (j.steps + max_requested_steps)
+  is_requested j = nat_le from j.steps && nat_le to (j.steps + MAX_REQUESTED_STEPS)
 
   not_begun : (j : JobValue) (fates : List Fate) → is_requested j ≡ false → left_by (unbroken_session (Loaded j) fates) ≡ Loaded j
   not_begun j fates e = ap (λ b. (steps_or_refusal (unbroken_session (Loaded j) fates) (if b then Ok (makes.Stages from to) else Err Range)).left.state) e
@@ -226,11 +226,11 @@ module _ (from to : ℕ) where
 
   still_requested : (i j : JobValue) → j.steps ≤ i.steps → is_requested j ≡ true → is_requested i ≡ true
   still_requested i j more e =
-      let parts = and_parts (nat_le from j.steps) (nat_le to (j.steps + max_requested_steps)) e in
+      let parts = and_parts (nat_le from j.steps) (nat_le to (j.steps + MAX_REQUESTED_STEPS)) e in
       let first = leb-true from j.steps parts.0 in
-      let last = leb-true to (j.steps + max_requested_steps) parts.1 in
+      let last = leb-true to (j.steps + MAX_REQUESTED_STEPS) parts.1 in
       let a = le-leb from i.steps (omega (arith, first, more)) in
-      let b = le-leb to (i.steps + max_requested_steps) (omega (arith, last, more)) in
+      let b = le-leb to (i.steps + MAX_REQUESTED_STEPS) (omega (arith, last, more)) in
       rw (a, b) refl
 
   line_cut : to ≤ 2 ^ 60 → (j : JobValue) (fates : List Fate) → is_requested j ≡ true → left_by (unbroken_session (left_by (unbroken_session (Loaded j) fates)) []) ≡ left_by (unbroken_session (Loaded j) [])

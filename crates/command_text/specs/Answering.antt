@@ -19,7 +19,7 @@ use Rattle.command_types.specs.declared.refusals.Refusal.{Refusal}
 use Rattle.command_types.specs.declared.refusals.Refusal.TheVariants.{NoInstance, Range, StepsSpent, NoTimes, NoFormat, OutOfMemory}
 use Rattle.plan_types.specs.declared.plans.Plan.{Plan}
 use Rattle.vehicle_assignment.specs.declared.faults.AssignmentFault.{AssignmentFault}
-use Rattle.plan_types.specs.Limits.{max_requested_steps}
+use Rattle.plan_types.specs.declared.limits.TheConstants.{MAX_REQUESTED_STEPS}
 use Rattle.command_text.specs.Answers.{answer_text, at_text, help_text, line, next_text, pin_text}
 use Rattle.command_text.specs.Cutting.{Piece, is_short, pieces_of}
 use Rattle.command_text.specs.Freezing.{freeze_commands}
@@ -154,11 +154,11 @@ unless_spent j n steps = if nat_le (j.steps + n) (2 ^ 60) then Ok steps else Err
 
 -- `reach N`: the steps that are left, if they are not more than one command may make.
 abbrev pub steps_to_reach : JobValue → ℕ → Result StepCursor Refusal
-steps_to_reach j n = if nat_le n (j.steps + max_requested_steps) then Ok (makes.Search (n - j.steps)) else Err Range
+steps_to_reach j n = if nat_le n (j.steps + MAX_REQUESTED_STEPS) then Ok (makes.Search (n - j.steps)) else Err Range
 
 -- `anneal FROM TO`: the steps `from..to` that are left, if they are not more than one command may make.
 abbrev pub steps_in_stages : JobValue → ℕ → ℕ → Result StepCursor Refusal
-steps_in_stages j from to = if nat_le from j.steps && nat_le to (j.steps + max_requested_steps) then Ok (makes.Stages from to) else Err Range
+steps_in_stages j from to = if nat_le from j.steps && nat_le to (j.steps + MAX_REQUESTED_STEPS) then Ok (makes.Stages from to) else Err Range
 
 -- `freeze T`: the pins of all vehicles, if the instance has times.
 abbrev pub steps_to_freeze : Kind → ℕ → Result StepCursor Refusal

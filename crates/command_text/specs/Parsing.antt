@@ -6,7 +6,7 @@ use Rattle.text_lines.specs.Words.{words_of}
 use Rattle.text_lines.specs.Numbers.{integer_of, below}
 use Rattle.instance_read.specs.Formats.{format_named}
 use Rattle.instance_read.specs.declared.formats.Format.{Format}
-use Rattle.plan_types.specs.Limits.{max_requested_steps}
+use Rattle.plan_types.specs.declared.limits.TheConstants.{MAX_REQUESTED_STEPS}
 use Rattle.command_types.specs.declared.commands.Spot.{Spot}
 use Rattle.command_types.specs.declared.commands.Command.{Command}
 use Rattle.command_types.specs.declared.commands.Command.TheVariants as command
@@ -73,7 +73,7 @@ steps_or (Some g) = Steps g
 -- N from 1 to the limit on the steps of one command.
 abbrev pub count_of : Option ℕ → Option ℕ
 count_of None = None
-count_of (Some n) = if nat_le 1 n && nat_le n max_requested_steps then Some n else None
+count_of (Some n) = if nat_le 1 n && nat_le n MAX_REQUESTED_STEPS then Some n else None
 
 abbrev pub search_of : Option ℕ → Option StepRequest
 search_of n = option_map goal.Search (count_of n)

@@ -1,10 +1,10 @@
 -- The answers to `show` and `print`. Vehicles count from 1.
 use Rattle.std.specs.Prelude.{ℕ, ◌+◌, ◌*◌, ◌==◌, if◌then◌else◌, List, [], ◌∷◌, ◌++◌, length, codes, decimal}
 use Rattle.std.specs.List.{flat_map}
-use Rattle.route_sched.specs.Cost.{cost_of, total_length}
+use Rattle.route_sched.specs.Cost.{cost_of, total_length, used_routes}
 use Rattle.seeded_search.specs.Steps.{unplanned_names}
-use Rattle.sol_text.specs.Written.{customers_text, solution_text, used_routes}
-use Rattle.sol_text.specs.declared.read.Solution.{Solution}
+use Rattle.sol_text.specs.Written.{customers_text, solution_text}
+use Rattle.plan_types.specs.declared.solutions.Solution.{Solution}
 use Rattle.command_types.specs.Job.{JobValue}
 use Rattle.command_text.specs.Answers.{cost_text, line}
 

@@ -17,10 +17,9 @@ use Rattle.plan_types.specs.declared.requests.Kind.TheVariants.{LiLim, Vrp}
 use Rattle.plan_types.specs.declared.requests.Request.{Request}
 use Rattle.plan_types.specs.declared.requests.Request.TheVariants.{Single, Pair}
 use Rattle.route_sched.specs.Route.{AreDistinctStops, IsPlan}
-use Rattle.route_sched.specs.Cost.{cost_of, has_stop, is_planned, total_length, unplanned_count, used_count, vehicle_count}
+use Rattle.route_sched.specs.Cost.{cost_of, has_stop, is_planned, total_length, unplanned_count, used_count, vehicle_count, used_routes}
 use Rattle.route_sched.specs.Schedule.{route_length}
 use Rattle.route_sched.proofs.Steps.{route_length-nil}
-use Rattle.sol_text.specs.Written.{used_routes}
 use Rattle.plan_audit.specs.Alone.{IsFeasibleAlone}
 use Rattle.plan_audit.specs.Laws.{AreAllPlanned, IsPlanned}
 use Rattle.plan_audit.specs.Locality.{IsPassing}

@@ -1,8 +1,7 @@
 -- The printed form of a plan: its nonempty routes and their distance.
 use Rattle.std.specs.Prelude.{◌≡◌, ℕ, true, List}
 use Rattle.plan_types.specs.Instance.{Instance, IsInstance}
-use Rattle.route_sched.specs.Cost.{cost_of, total_length, unplanned_count}
-use Rattle.sol_text.specs.Written.{used_routes}
+use Rattle.route_sched.specs.Cost.{cost_of, total_length, unplanned_count, used_routes}
 use Rattle.plan_audit.specs.Laws.{IsSoundPlan}
 use Rattle.plan_audit.specs.Passes.{passes}
 use Rattle.plan_audit.specs.Verdict.{IsVerdict, printed}

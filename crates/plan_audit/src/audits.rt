@@ -12,10 +12,9 @@ use crate::rules::{Rule, Verdict};
 use crate::scan::Scan;
 use crate::timing::{cost_within_limits, first_late, first_late_return, first_overload};
 use plan_types::{
-    Cost, Kind, OutOfMemory, Pins, Plan, Problem, Route, numbers_are_below_next_number,
+    Cost, Kind, OutOfMemory, Pins, Plan, Problem, Route, Solution, numbers_are_below_next_number,
 };
 use route_sched::routes_cost;
-use sol_text::Solution;
 use std::alloc::Global;
 
 /// Audits a plan with its pins. Returns the first violation by rule, route, place and stop, or `Pass` with the

@@ -5,7 +5,7 @@ use Rattle.text_lines.specs.Words.{is_blank_line}
 use Rattle.sol_text.specs.Faults.{IsFirstFault, Spells}
 use Rattle.sol_text.specs.LineShapes.{is_cost_line}
 use Rattle.sol_text.specs.declared.faults.SolFault.{SolFault}
-use Rattle.sol_text.specs.declared.read.Solution.{Solution}
+use Rattle.plan_types.specs.declared.solutions.Solution.{Solution}
 
 -- the number of the first line that is not blank; the first line of the list has number n
 abbrev pub first_nonblank : ℕ → List (List ℕ) → Option ℕ

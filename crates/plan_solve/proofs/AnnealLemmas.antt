@@ -4,7 +4,7 @@ use Rattle.std.specs.Prelude.{max}
 use Rattle.std.specs.Io.KnownBytes.{Appends}
 use Rattle.std.proofs.KnownBytes.{Appends-trans}
 use Rattle.std.proofs.lemmas.Bool.{le-leb}
-use Rattle.plan_types.specs.Limits.{max_requested_steps}
+use Rattle.plan_types.specs.declared.limits.TheConstants.{MAX_REQUESTED_STEPS}
 use Rattle.command_core.specs.Effects.{effect, job_after}
 use Rattle.command_types.specs.Job.{JobValue}
 use Rattle.command_core.specs.Runs.{after}
@@ -96,5 +96,5 @@ stages_make_it p seed steps = after_all (commands_from (begun p seed) steps) (be
 pub line_leaves_it : AnnealingEqualsOneCommand
 line_leaves_it p seed steps few =
     let least = le-leb 0 0 (omega arith) in
-    let most = le-leb steps max_requested_steps few in
+    let most = le-leb steps MAX_REQUESTED_STEPS few in
     uncut 0 steps (omega (arith, few)) (begun p seed) (rw (least, most) refl) ∙ after_all (commands_from (begun p seed) steps) (begun p seed)

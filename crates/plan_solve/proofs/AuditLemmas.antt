@@ -4,9 +4,8 @@ use Rattle.std.specs.List.{list_all}
 use Rattle.std.proofs.lemmas.Bool.{and_parts, cases_Bool}
 use Rattle.plan_types.specs.Instance.{Instance, IsInstance}
 use Rattle.plan_types.specs.declared.requests.Request.{Request}
-use Rattle.route_sched.specs.Cost.{cost_of, is_planned, total_length, unplanned_count}
+use Rattle.route_sched.specs.Cost.{cost_of, is_planned, total_length, unplanned_count, used_routes}
 use Rattle.sol_text.specs.Faults.{Spells}
-use Rattle.sol_text.specs.Written.{used_routes}
 use Rattle.plan_audit.specs.Laws.{SolutionsPassIffSound}
 use Rattle.plan_audit.specs.Passes as audit
 use Rattle.plan_audit.specs.Printing.{WholePlansPassPrinted}

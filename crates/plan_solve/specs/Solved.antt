@@ -7,7 +7,8 @@ use Rattle.instance_read.specs.Faults.{IsFirstFault}
 use Rattle.instance_read.specs.declared.faults.ReadFault.{ReadFault}
 use Rattle.instance_read.specs.declared.faults.ReadFaultKind.TheVariants as read_fault
 use Rattle.sol_text.specs.Faults.{Spells}
-use Rattle.sol_text.specs.Written.{routes_text, used_routes}
+use Rattle.route_sched.specs.Cost.{used_routes}
+use Rattle.sol_text.specs.Written.{routes_text}
 use Rattle.seeded_search.specs.Steps.{unplanned_names}
 use Rattle.command_core.specs.Effects.{built, job_after, loaded, searched, with_deviation}
 use Rattle.command_types.specs.Job.{JobValue}
@@ -21,7 +22,7 @@ use Rattle.command_text.specs.Answers.{at_text, line}
 use Rattle.command_text.specs.Laws.{state_after_steps}
 use Rattle.instance_read.specs.Readings.{InstanceFault, SpellsInstance}
 use Rattle.instance_read.specs.declared.formats.Format.{Format}
-use Rattle.plan_types.specs.Limits.{max_requested_steps, max_deviation}
+use Rattle.plan_types.specs.declared.limits.TheConstants.{MAX_REQUESTED_STEPS, MAX_DEVIATION}
 use Rattle.command_text.specs.Showing.{print_text, solution_of}
 use Rattle.command_text.specs.declared.steps.StepRequest.TheVariants as goal
 use Rattle.command_text.specs.declared.steps.StepCursor.TheVariants as makes
@@ -91,7 +92,7 @@ anneal_lines j steps = line (at_text j) ++ lines_after steps 0 j (commands_from 
 
 -- The deviation of the search, limited to the greatest one; without a deviation the steps anneal
 abbrev pub deviation_of : Option ℕ → Option ℕ
-deviation_of (Some deviation) = Some (min deviation max_deviation)
+deviation_of (Some deviation) = Some (min deviation MAX_DEVIATION)
 deviation_of None = None
 
 -- The job after this many steps
@@ -113,7 +114,7 @@ progress p seed steps deviation = progress_lines (begun p seed) steps (deviation
 -- Law: with a deviation, the result is the one that the operations of a store make, however the steps are split
 -- into searches
 abbrev pub SolvingEqualsCommands : Type 0
-SolvingEqualsCommands = (p : Instance) (seed deviation : ℕ) (cs : List Command) → deviation ≤ max_deviation → list_all is_searching cs ≡ true
+SolvingEqualsCommands = (p : Instance) (seed deviation : ℕ) (cs : List Command) → deviation ≤ MAX_DEVIATION → list_all is_searching cs ≡ true
     → after Empty (Load p seed ∷ Build ∷ Deviation deviation ∷ cs) ≡ Loaded (solved p seed (sum_by steps_of cs) (Some deviation))
 
 -- Law: without a deviation, the result is the one that the operations of the command `anneal 0 STEPS` make
@@ -124,7 +125,7 @@ AnnealingEqualsCommands = (p : Instance) (seed steps : ℕ)
 -- Law: without a deviation, the command `anneal 0 STEPS` leaves the same result, if a command may have that
 -- many steps
 abbrev pub AnnealingEqualsOneCommand : Type 0
-AnnealingEqualsOneCommand = (p : Instance) (seed steps : ℕ) → steps ≤ max_requested_steps
+AnnealingEqualsOneCommand = (p : Instance) (seed steps : ℕ) → steps ≤ MAX_REQUESTED_STEPS
     → state_after_steps (goal.Stages 0 steps) (after Empty (Load p seed ∷ Build ∷ [])) [] ≡ Loaded (solved p seed steps None)
 
 -- ---- the answer

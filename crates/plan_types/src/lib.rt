@@ -10,6 +10,7 @@
 //!   problem.
 //! - `problems`: the problem, and its lookups by stop number.
 //! - `plans`: routes, plans, pins and costs.
+//! - `solutions`: solutions as their authors print them.
 //! - `laws`: facts about every problem, every lookup and every cost, without code.
 //!
 //! Source: the usual terms of the field, for PDPTW as in Li and Lim's instances, for CVRP as in CVRPLIB. The
@@ -37,6 +38,7 @@ pub mod limits;
 mod plans;
 mod problems;
 mod requests;
+mod solutions;
 
 pub use laws::{
     costs_are_totally_ordered, costs_compare_lexicographically, numbers_are_below_next_number,
@@ -46,6 +48,7 @@ pub use laws::{
 pub use plans::{Cost, Pins, Plan, Route, Routes};
 pub use problems::{Problem, PutFault};
 pub use requests::{Kind, Request, Stop};
+pub use solutions::Solution;
 use std::alloc::AllocError;
 
 /// The error of an operation that could not allocate memory.

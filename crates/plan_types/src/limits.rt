@@ -1,5 +1,4 @@
-//! The limits of the numbers of a problem, and the most search steps that one command may request. All are
-//! inclusive.
+//! The limits of the numbers of a problem, and of search steps. All are inclusive.
 
 /// The greatest stop number. Number 0 is the depot.
 pub const MAX_STOP_NUMBER: u32 = 40_000;
@@ -20,3 +19,5 @@ pub const MAX_SERVICE: u32 = 1_000_000;
 pub const MAX_DEVIATION: u32 = 1_000_000_000;
 /// The most search steps that one command or operand may request.
 pub const MAX_REQUESTED_STEPS: u64 = 1_000_000_000;
+/// The greatest number of search steps that a state may have made.
+pub const MAX_STEPS: u64 = 1 << 60;

@@ -1,5 +1,5 @@
 -- The cost of a plan.
-use Rattle.std.specs.Prelude.{ℕ, nat_eq, ◌==◌, Bool, not, List, length, sum_by, count_by}
+use Rattle.std.specs.Prelude.{ℕ, nat_eq, ◌==◌, Bool, not, List, filter, length, sum_by, count_by}
 use Rattle.std.specs.List.{concat, list_any}
 use Rattle.plan_types.specs.Request.{stops_of}
 use Rattle.plan_types.specs.Instance.{Instance}
@@ -20,6 +20,10 @@ is_planned routes r = list_any (λ s. has_stop routes s.number) (stops_of r)
 -- the number of requests that have no stop in any route
 abbrev pub unplanned_count : Instance → List (List ℕ) → ℕ
 unplanned_count p routes = count_by (λ e. not (is_planned routes e.1)) p.requests
+
+-- the routes that are not empty
+abbrev pub used_routes : List (List ℕ) → List (List ℕ)
+used_routes routes = filter (λ route. not (length route == 0)) routes
 
 -- the number of routes that are not empty
 abbrev pub used_count : List (List ℕ) → ℕ

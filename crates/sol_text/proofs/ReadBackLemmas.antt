@@ -17,7 +17,8 @@ use Rattle.sol_text.specs.Values.{customer_of, cost_of}
 use Rattle.sol_text.specs.Reading.{customers_of, line_of, prepend_line, reading, with_routes}
 use Rattle.sol_text.specs.Laws.{begins_with_colon}
 use Rattle.sol_text.proofs.ShapeLemmas.{all_digits, cost_word_from_line, route_tail_from_line}
-use Rattle.sol_text.specs.Written.{used_routes, customers_text, route_text, routes_text, cost_text, solution_text}
+use Rattle.route_sched.specs.Cost.{used_routes}
+use Rattle.sol_text.specs.Written.{customers_text, route_text, routes_text, cost_text, solution_text}
 use Rattle.sol_text.specs.declared.lines.Line.TheVariants.{Route, Cost}
 
 -- ---- bytes that do not end a line

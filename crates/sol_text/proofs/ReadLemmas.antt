@@ -5,7 +5,7 @@ use Rattle.sol_text.specs.Reading.{line_of, reading, with_routes, prepend_line}
 use Rattle.sol_text.specs.declared.faults.SolFault.{SolFault}
 use Rattle.sol_text.specs.declared.faults.SolFaultKind.TheVariants.{NoCost}
 use Rattle.sol_text.specs.declared.lines.Line.TheVariants.{Blank, Route, Cost}
-use Rattle.sol_text.specs.declared.read.Solution.{Solution}
+use Rattle.plan_types.specs.declared.solutions.Solution.{Solution}
 
 with_routes-twice : (rs : List (List ℕ)) (r : List ℕ) (x : Result Solution SolFault) → with_routes rs (with_routes (r ∷ []) x) ≡ with_routes (rs ++ r ∷ []) x
 with_routes-twice rs r (Ok s) = ap (λ all. Ok (record s { routes = all })) (sym (append_assoc rs (r ∷ []) s.routes))

@@ -14,7 +14,7 @@ use Rattle.sol_text.specs.declared.faults.SolFaultKind.{SolFaultKind}
 use Rattle.sol_text.specs.declared.faults.SolFaultKind.TheVariants.{BadLine, BadNumber, NoCost, OutOfMemory}
 use Rattle.sol_text.specs.declared.lines.Line.{Line}
 use Rattle.sol_text.specs.declared.lines.Line.TheVariants.{Blank, Route, Cost}
-use Rattle.sol_text.specs.declared.read.Solution.{Solution}
+use Rattle.plan_types.specs.declared.solutions.Solution.{Solution}
 use Rattle.sol_text.proofs.FaultLemmas.{Harmless, IsOfKind, SaysOf, line_of_says, bad, bad_number}
 
 -- ---- the faults of a line and of those after it

@@ -9,7 +9,7 @@ use Rattle.sol_text.specs.Values.{customer_of, cost_of, solution_in_lines}
 use Rattle.sol_text.specs.declared.faults.SolFault.{SolFault}
 use Rattle.sol_text.specs.declared.faults.SolFaultKind.{SolFaultKind}
 use Rattle.sol_text.specs.declared.faults.SolFaultKind.TheVariants.{BadLine, BadNumber, NoCost, OutOfMemory}
-use Rattle.sol_text.specs.declared.read.Solution.{Solution}
+use Rattle.plan_types.specs.declared.solutions.Solution.{Solution}
 
 -- not blank, not a route line, and not a cost line with exactly one word
 abbrev pub is_bad_line : List ℕ → Bool

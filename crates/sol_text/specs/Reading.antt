@@ -9,7 +9,7 @@ use Rattle.sol_text.specs.declared.faults.SolFault.{SolFault}
 use Rattle.sol_text.specs.declared.faults.SolFaultKind.TheVariants.{BadLine, BadNumber, NoCost}
 use Rattle.sol_text.specs.declared.lines.Line.{Line}
 use Rattle.sol_text.specs.declared.lines.Line.TheVariants.{Blank, Route, Cost}
-use Rattle.sol_text.specs.declared.read.Solution.{Solution}
+use Rattle.plan_types.specs.declared.solutions.Solution.{Solution}
 
 -- a function returned the wanted value, unless memory ran out
 abbrev pub Returns : {X : Type 0} → Result X SolFault → Result X SolFault → Type 0

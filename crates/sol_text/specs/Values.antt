@@ -4,7 +4,7 @@ use Rattle.std.specs.List.{before_first, filter_map}
 use Rattle.std.specs.Option.{option_and_then, option_map}
 use Rattle.text_lines.specs.Numbers.{below, digits_of, magnitude, number_of}
 use Rattle.sol_text.specs.LineShapes.{customer_words, cost_word, is_cost_line}
-use Rattle.sol_text.specs.declared.read.Solution.{Solution}
+use Rattle.plan_types.specs.declared.solutions.Solution.{Solution}
 
 -- the customer that a word of digits names, if it is at most 2^32 - 1
 unfoldable pub customer_of : List ℕ → Option ℕ

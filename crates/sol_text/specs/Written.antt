@@ -1,11 +1,7 @@
 -- The text of a solution.
-use Rattle.std.specs.Prelude.{ℕ, ◌+◌, ◌==◌, not, List, [], ◌∷◌, ◌++◌, length, filter, codes}
+use Rattle.std.specs.Prelude.{ℕ, ◌+◌, List, [], ◌∷◌, ◌++◌, codes}
 use Rattle.std.specs.Fmt.{decimal}
 use Rattle.std.specs.List.{flat_map}
-
--- the nonempty routes
-abbrev pub used_routes : List (List ℕ) → List (List ℕ)
-used_routes routes = filter (λ route. not (length route == 0)) routes
 
 -- each customer with a space before it
 abbrev pub customers_text : List ℕ → List ℕ

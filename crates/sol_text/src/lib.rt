@@ -32,5 +32,6 @@ mod write;
 pub use faults::{SolFault, SolFaultKind, WriteSolFault};
 pub use laws::{cost_lines_follow_grammar, route_lines_follow_grammar};
 pub use lines::{cost_tail, cost_word};
-pub use read::{Solution, read_sol};
+pub use plan_types::Solution;
+pub use read::read_sol;
 pub use write::{write_routes, write_sol};

@@ -3,23 +3,14 @@
 ghost use Rattle.std.specs.Prelude.{◌≡◌, ◌⊎◌, IfOk, IfErr};
 ghost use Rattle.text_lines.specs.Lines.{lines_of};
 ghost use Rattle.sol_text.specs.Reading.{Returns, reading};
-ghost use Rattle.sol_text.specs.declared.read.Solution.{Solution};
+ghost use Rattle.plan_types.specs.declared.solutions.Solution.{Solution};
 ghost use Rattle.sol_text.specs.Faults.{IsFirstFault, IsUnlessOutOfMemory, Spells, out_of_memory};
 
 use crate::faults::{SolFault, SolFaultKind};
 use crate::lines::{Line, parse_line};
-use plan_types::Routes;
+use plan_types::{Routes, Solution};
 use std::alloc::Global;
 use text_lines::Lines;
-
-/// A solution of a routing problem, by any author.
-#[derive(Debug, Drop)]
-pub struct Solution {
-    /// The customers of each route line, in order.
-    pub routes: Routes,
-    /// The distance in the cost line.
-    pub cost: u64,
-}
 
 /// Reads a solution in the format of CVRPLIB's `.sol` files: lines like `Route #1: 21 31 19`, then one like
 /// `Cost 784`. The text after the cost line is ignored.

@@ -3,9 +3,9 @@
 ghost use Rattle.std.specs.Prelude.{◌≡◌, ◌≢◌, ◌<◌, ◌++◌, ◌∷◌, [], ◌+◌, ◌^◌, length, IfOk, OnOk, OnErr, IsErrOf, IsOkUnless};
 ghost use Rattle.std.specs.Fmt.{decimal};
 ghost use Rattle.route_sched.specs.Route.{IsPlan};
-ghost use Rattle.route_sched.specs.Cost.{unplanned_count, total_length};
+ghost use Rattle.route_sched.specs.Cost.{unplanned_count, total_length, used_routes};
 ghost use Rattle.sol_text.specs.Faults.{Spells};
-ghost use Rattle.sol_text.specs.Written.{used_routes, customers_text, route_text, routes_text, cost_text, solution_text};
+ghost use Rattle.sol_text.specs.Written.{customers_text, route_text, routes_text, cost_text, solution_text};
 ghost use Rattle.sol_text.specs.declared.faults.WriteSolFault.TheVariants.{Unplanned, OutOfMemory};
 
 use crate::faults::WriteSolFault;

@@ -3,7 +3,7 @@ use Rattle.std.proofs.Common.{◌≡◌, ◌≢◌, ◌⊎◌, ℕ, ◌<◌, ◌
 use Rattle.std.specs.Prelude.{◌&&◌}
 use Rattle.std.proofs.lemmas.Bool.{cases_lt}
 use Rattle.std.proofs.lemmas.Bool.Decides.{eqb_tells}
-use Rattle.plan_types.specs.Limits.{max_deviation}
+use Rattle.plan_types.specs.declared.limits.TheConstants.{MAX_DEVIATION}
 use Rattle.command_types.specs.AddedRequests.{is_spot, is_demand}
 use Rattle.command_types.specs.declared.commands.Command.{Command}
 use Rattle.command_types.specs.declared.commands.Command.TheVariants.{Add, Add1, Withdraw, Pin, Unpin, Build, Search, Deviation}
@@ -47,7 +47,7 @@ holds b = by_test b (λ h. h) (λ h. h)
 
 deviation : (v : Version) (d : ℕ) → Settled (IsDeviationOf v d)
 deviation One d = inr (λ h. h)
-deviation Two d = at_most d max_deviation
+deviation Two d = at_most d MAX_DEVIATION
 
 recorded : (v : Version) (c : Command) → Settled (IsRecorded v c)
 recorded v (Add demand pickup delivery) = holds (is_demand demand && (is_spot pickup && is_spot delivery))

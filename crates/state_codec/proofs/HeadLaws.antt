@@ -2,7 +2,8 @@
 use Rattle.std.proofs.Common.{◌≡◌, ℕ, ◌+◌, ◌^◌, ◌<◌, ◌≤◌, ℤ, pos, Bool, true, false, cond, List, [], ◌∷◌, ◌++◌, Ok, Err, refl, sym, ap, subst, ◌∙◌, append_assoc, arith}
 use Rattle.std.specs.Prelude.{nat_le, ◌==◌}
 use Rattle.std.proofs.lemmas.Bool.{eqb-true, leb-true, le-leb, and_parts, and_from}
-use Rattle.plan_types.specs.Limits.{max_deviation, IsDepot, IsVisit}
+use Rattle.plan_types.specs.Limits.{IsDepot, IsVisit}
+use Rattle.plan_types.specs.declared.limits.TheConstants.{MAX_DEVIATION}
 use Rattle.plan_types.specs.declared.requests.Stop.{Stop}
 use Rattle.plan_types.specs.declared.requests.Kind.{Kind}
 use Rattle.plan_types.specs.declared.requests.Kind.TheVariants.{LiLim, Vrp}
@@ -73,15 +74,15 @@ depot_again s rest is =
 
 abbrev pub IsAllowance : Version → ℕ → Type 0
 IsAllowance One d = d ≡ 0
-IsAllowance Two d = d ≤ max_deviation
+IsAllowance Two d = d ≤ MAX_DEVIATION
 
 allowance_takes : (v : Version) (bytes : List ℕ) → IsBytes bytes → (y : ℕ × List ℕ) → job_deviation_at v bytes ≡ Ok y → Takes bytes (deviation_bytes v y.0) y.1 × IsAllowance v y.0
 allowance_takes One bytes fits y e = subst (λ (z : ℕ × List ℕ). Takes bytes [] z.1 × (z.0 ≡ 0)) (ok_is (0, bytes) y e) (record { parts = refl; rest_fits = fits }, refl)
-allowance_takes Two bytes fits y e = let t = number_only is_deviation 4 (number_takes 4 of_4) bytes fits y e in (t.0, leb-true y.0 max_deviation t.1)
+allowance_takes Two bytes fits y e = let t = number_only is_deviation 4 (number_takes 4 of_4) bytes fits y e in (t.0, leb-true y.0 MAX_DEVIATION t.1)
 
 allowance_again : (v : Version) (d : ℕ) (rest : List ℕ) → IsAllowance v d → job_deviation_at v (deviation_bytes v d ++ rest) ≡ Ok (d, rest)
 allowance_again One d rest is = rw is refl
-allowance_again Two d rest is = only_again is_deviation (number_at 4 (number_bytes 4 d ++ rest)) (d, rest) (number_again 4 d rest (omega (arith, is))) (le-leb d max_deviation is)
+allowance_again Two d rest is = only_again is_deviation (number_at 4 (number_bytes 4 d ++ rest)) (d, rest) (number_again 4 d rest (omega (arith, is))) (le-leb d MAX_DEVIATION is)
 
 -- ---- the whole head
 

@@ -6,7 +6,7 @@ use Rattle.std.proofs.lemmas.List.{append-nil, nil_from_length}
 use Rattle.plan_types.specs.Instance.{Instance}
 use Rattle.plan_types.specs.Request.{request_name}
 use Rattle.plan_types.specs.declared.requests.Request.{Request}
-use Rattle.plan_types.specs.Limits.{max_deviation}
+use Rattle.plan_types.specs.declared.limits.TheConstants.{MAX_DEVIATION}
 use Rattle.command_types.specs.Job.{JobValue}
 use Rattle.state_codec.specs.declared.head.Head.{Head}
 use Rattle.state_codec.specs.declared.version.Version.{Version}
@@ -73,11 +73,11 @@ work_takes Two fleet plan bytes fits y e = ((routes_take Two fleet bytes fits y 
 pub record IsReadJob (v : Version) (j : JobValue) : Type 0 where
   pub of : IsJobOf v j
   pub fleet : length j.pins ≡ j.problem.fleet
-  pub deviation : j.deviation ≤ max_deviation
+  pub deviation : j.deviation ≤ MAX_DEVIATION
   pub seed : j.seed < 2 ^ 64
   pub steps : j.steps ≤ 2 ^ 60
 
-allowed : (v : Version) (d : ℕ) → IsAllowance v d → d ≤ max_deviation
+allowed : (v : Version) (d : ℕ) → IsAllowance v d → d ≤ MAX_DEVIATION
 allowed One d h = omega (arith, h)
 allowed Two d h = h
 

@@ -3,7 +3,8 @@ use Rattle.std.proofs.Common.{◌≡◌, ℕ, ◌-◌, ◌^◌, ◌<◌, List, �
 use Rattle.std.specs.Prelude.{◌&&◌, true, pos, replicate}
 use Rattle.std.proofs.lemmas.Bool.{and_parts, le-leb, leb-true}
 use Rattle.std.proofs.lemmas.List.{drop_at}
-use Rattle.plan_types.specs.Limits.{max_deviation, IsVisit}
+use Rattle.plan_types.specs.Limits.{IsVisit}
+use Rattle.plan_types.specs.declared.limits.TheConstants.{MAX_DEVIATION}
 use Rattle.command_types.specs.Commands.{is_recorded, fits_record}
 use Rattle.command_types.specs.AddedRequests.{is_demand, is_spot, stop_at_spot}
 use Rattle.command_types.specs.declared.commands.Spot.{Spot}
@@ -87,7 +88,7 @@ recorded_fits v (Unpin vehicle) is = (refl, refl)
 recorded_fits v Build is = (refl, refl)
 recorded_fits v (Search count) is = (refl, rw (le-leb 1 count is.0, le-leb count 256 is.1) refl)
 recorded_fits One (Deviation deviation) is = absurd is
-recorded_fits Two (Deviation deviation) is = (refl, le-leb deviation max_deviation is)
+recorded_fits Two (Deviation deviation) is = (refl, le-leb deviation MAX_DEVIATION is)
 recorded_fits v c is = absurd is
 
 -- The fields of a record after its sequence and index are read back as its command

@@ -42,7 +42,8 @@ use Rattle.std.proofs.lemmas.List.{append-nil}
 use Rattle.std.proofs.lemmas.List.Folds.{list_all-append}
 use Rattle.std.proofs.lemmas.Bool.{lt-ltb, le-leb, and_from}
 use Rattle.plan_types.specs.Laws.{StopsAreBelowNext}
-use Rattle.plan_types.specs.Limits.{max_deviation, IsDemand, IsStop}
+use Rattle.plan_types.specs.Limits.{IsDemand, IsStop}
+use Rattle.plan_types.specs.declared.limits.TheConstants.{MAX_DEVIATION}
 use Rattle.plan_types.specs.Request.{IsRequest, request_name, stop_in}
 use Rattle.plan_types.specs.Instance.{Instance, IsInstance, first_some, numbers_among}
 use Rattle.plan_types.specs.declared.requests.Stop.{Stop}
@@ -256,7 +257,7 @@ fleet_most : (v : Version) (j : JobValue) → IsJobOf v j → IsInstance j.probl
 fleet_most One j of is = of.fleet
 fleet_most Two j of is = is.fleet.1
 
-allowance_of : (v : Version) (j : JobValue) → IsJobOf v j → j.deviation ≤ max_deviation → IsAllowance v j.deviation
+allowance_of : (v : Version) (j : JobValue) → IsJobOf v j → j.deviation ≤ MAX_DEVIATION → IsAllowance v j.deviation
 allowance_of One j of h = of.deviation
 allowance_of Two j of h = h
 

@@ -1,6 +1,6 @@
 -- The values that each version can represent
 use Rattle.std.specs.Prelude.{◌≡◌, ℕ, ◌<◌, ◌≤◌, ◌^◌, ◌+◌, ◌&&◌, true}
-use Rattle.plan_types.specs.Limits.{max_deviation}
+use Rattle.plan_types.specs.declared.limits.TheConstants.{MAX_DEVIATION}
 use Rattle.command_types.specs.Job.{JobValue}
 use Rattle.command_types.specs.AddedRequests.{is_spot, is_demand}
 use Rattle.command_types.specs.declared.states.State.{State}
@@ -39,7 +39,7 @@ HasRoom v n = n < 256 ^ width v
 -- The version can represent this deviation. Version 1 can represent only 0
 abbrev pub IsDeviationOf : Version → ℕ → Type 0
 IsDeviationOf One d = ⊥
-IsDeviationOf Two d = d ≤ max_deviation
+IsDeviationOf Two d = d ≤ MAX_DEVIATION
 
 -- The commands that have a record, with fields within their limits. For other commands a store writes
 -- snapshots. Numbers of requests, vehicles and places may have any value for which the version has room.

@@ -1,6 +1,7 @@
 -- The parts of a state that were read and not yet checked
 use Rattle.std.specs.Prelude.{◌≡◌, ◌<◌, ◌≤◌, ◌^◌, length}
-use Rattle.plan_types.specs.Limits.{max_deviation, IsCapacity, IsDepot, IsFleet}
+use Rattle.plan_types.specs.Limits.{IsCapacity, IsDepot, IsFleet}
+use Rattle.plan_types.specs.declared.limits.TheConstants.{MAX_DEVIATION}
 use Rattle.command_types.specs.Job.{JobValue}
 use Rattle.state_codec.specs.declared.head.Head.{Head}
 use Rattle.state_codec.specs.declared.parts.Parts.{Parts}
@@ -19,6 +20,6 @@ pub record IsHead (h : Head) : Type 0 where
 -- A job within the limits of a state
 pub record IsWithin (j : JobValue) : Type 0 where
   pub fleet : length j.pins ≡ j.problem.fleet
-  pub deviation : j.deviation ≤ max_deviation
+  pub deviation : j.deviation ≤ MAX_DEVIATION
   pub seed : j.seed < 2 ^ 64
   pub steps : j.steps ≤ 2 ^ 60

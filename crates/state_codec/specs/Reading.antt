@@ -39,7 +39,7 @@ use Rattle.plan_types.specs.declared.requests.Request.{Request}
 use Rattle.plan_types.specs.declared.requests.Request.TheVariants.{Single, Pair}
 use Rattle.plan_types.specs.declared.requests.Kind.{Kind}
 use Rattle.plan_types.specs.declared.requests.Kind.TheVariants.{LiLim, Vrp}
-use Rattle.plan_types.specs.Limits.{max_deviation}
+use Rattle.plan_types.specs.declared.limits.TheConstants.{MAX_DEVIATION}
 use Rattle.command_types.specs.Job.{JobValue}
 use Rattle.state_codec.specs.declared.version.Version.{Version}
 use Rattle.state_codec.specs.declared.version.Version.TheVariants.{One, Two}
@@ -179,7 +179,7 @@ abbrev pub is_next : Version → ℕ → Bool
 is_next v n = nat_le 1 n && nat_le n (most v + 1)
 
 abbrev pub is_deviation : ℕ → Bool
-is_deviation d = nat_le d max_deviation
+is_deviation d = nat_le d MAX_DEVIATION
 
 unfoldable pub depot_at : List ℕ → Field Stop
 depot_at bytes = do

@@ -10,8 +10,7 @@ use Rattle.std.proofs.lemmas.List.{length-append, length-replicate}
 use Rattle.std.proofs.lemmas.List.Quantifiers.{position-Some}
 use Rattle.std.proofs.lemmas.List.Sums.{length-filter, sum_by-append, sum_by-cons, sum_by-set}
 use Rattle.plan_types.specs.declared.plans.Plan.{Plan}
-use Rattle.route_sched.specs.Cost.{used_count}
-use Rattle.sol_text.specs.Written.{used_routes}
+use Rattle.route_sched.specs.Cost.{used_count, used_routes}
 use Rattle.plan_audit.specs.Passes.{begin_with_pins}
 use Rattle.plan_audit.proofs.FleetLemmas.{used-most}
 use Rattle.vehicle_assignment.specs.Laws.{IsAssignment, AssignmentKeepsRoutes}

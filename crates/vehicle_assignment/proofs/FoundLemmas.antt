@@ -7,7 +7,7 @@ use Rattle.sol_text.specs.Faults.{IsFirstFault, out_of_memory}
 use Rattle.sol_text.specs.declared.faults.SolFault.{SolFault}
 use Rattle.sol_text.specs.declared.faults.SolFaultKind.{SolFaultKind}
 use Rattle.sol_text.specs.declared.faults.SolFaultKind.TheVariants as sol
-use Rattle.sol_text.specs.declared.read.Solution.{Solution}
+use Rattle.plan_types.specs.declared.solutions.Solution.{Solution}
 use Rattle.plan_audit.specs.declared.rules.Verdict.TheVariants as verdict
 use Rattle.vehicle_assignment.specs.Faults.{by_kind, fault_from}
 use Rattle.vehicle_assignment.specs.AssignedPlan.{Gives, IsAudited, IsFoundOrOutOfMemory}

@@ -11,7 +11,7 @@ use Rattle.sol_text.specs.Reading.{reading}
 use Rattle.sol_text.specs.declared.faults.SolFault.{SolFault}
 use Rattle.sol_text.specs.declared.faults.SolFaultKind.{SolFaultKind}
 use Rattle.sol_text.specs.declared.faults.SolFaultKind.TheVariants as sol
-use Rattle.sol_text.specs.declared.read.Solution.{Solution}
+use Rattle.plan_types.specs.declared.solutions.Solution.{Solution}
 use Rattle.sol_text.proofs.FaultLemmas.{bad, bad_number}
 use Rattle.sol_text.proofs.TextLemmas.{first_from_reported, spells_from_reported}
 use Rattle.plan_audit.specs.Locality.{SubjectsHaveVerdicts, VerdictsAreUnique}

@@ -3,7 +3,7 @@ use Rattle.std.specs.Prelude.{ℕ, ◌+◌, ◌-◌, ◌==◌, nat_eq, Bool, Lis
 use Rattle.std.specs.List.{position, starts_with}
 use Rattle.std.specs.Option.{option_map}
 use Rattle.plan_types.specs.declared.plans.Plan.{Plan}
-use Rattle.sol_text.specs.Written.{used_routes}
+use Rattle.route_sched.specs.Cost.{used_routes}
 use Rattle.vehicle_assignment.specs.declared.assignment.Assignment.{Assignment}
 use Rattle.vehicle_assignment.specs.declared.faults.AssignmentFault.{AssignmentFault}
 use Rattle.vehicle_assignment.specs.declared.faults.AssignmentFault.TheVariants.{PinWithoutRoute}

@@ -1,7 +1,7 @@
 //! The routes that vehicles without pins take from the remaining ones.
 ghost use Rattle.std.specs.Prelude.{◌≡◌, ◌∷◌, IfOk, OnOk, ℕ, List};
 ghost use Rattle.std.specs.Vec.Iter.{into_iter_items};
-ghost use Rattle.sol_text.specs.Written.{used_routes};
+ghost use Rattle.route_sched.specs.Cost.{used_routes};
 ghost use Rattle.vehicle_assignment.specs.Assignments.{fill_empty, padded};
 
 use plan_types::{OutOfMemory, Route, Routes};

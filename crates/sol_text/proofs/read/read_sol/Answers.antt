@@ -5,7 +5,7 @@ use Rattle.text_lines.specs.Lines.{lines_of}
 use Rattle.sol_text.specs.Reading.{Returns, reading}
 use Rattle.sol_text.specs.Faults.{IsFirstFault, IsUnlessOutOfMemory, Spells, out_of_memory}
 use Rattle.sol_text.specs.declared.faults.SolFault.{SolFault}
-use Rattle.sol_text.specs.declared.read.Solution.{Solution}
+use Rattle.plan_types.specs.declared.solutions.Solution.{Solution}
 use Rattle.sol_text.proofs.TextLemmas.{spells_from_reported, first_from_reported}
 use Rattle.sol_text.proofs.read.read_sol.Goals as goal
 

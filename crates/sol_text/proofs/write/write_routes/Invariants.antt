@@ -1,7 +1,8 @@
 -- The text so far, followed by that of the remaining nonempty routes, is the text of all nonempty routes. Their
 -- numbers grow by at most one per route.
 use Rattle.std.proofs.Common.{◌≡◌, ◌≤◌, ◌+◌, ◌++◌, drop}
-use Rattle.sol_text.specs.Written.{used_routes, routes_text}
+use Rattle.route_sched.specs.Cost.{used_routes}
+use Rattle.sol_text.specs.Written.{routes_text}
 use Rattle.sol_text.proofs.write.write_routes.Given as goal
 
 abbrev pub invariant-loop-route : goal.invariant-loop-route

@@ -1,8 +1,8 @@
 -- The text of a plan reads back as its nonempty routes and their distance.
 use Rattle.std.proofs.Common.{◌≡◌, ◌∙◌, ◌<◌, ◌+◌, ◌^◌, ◌++◌, ◌∷◌, [], length, sym, ap, subst, arith}
-use Rattle.route_sched.specs.Cost.{total_length}
+use Rattle.route_sched.specs.Cost.{total_length, used_routes}
 use Rattle.sol_text.specs.Faults.{Spells}
-use Rattle.sol_text.specs.Written.{used_routes, cost_text, solution_text}
+use Rattle.sol_text.specs.Written.{cost_text, solution_text}
 use Rattle.sol_text.proofs.TextLemmas.{spells_from_reported}
 use Rattle.sol_text.proofs.ReadBackLemmas.{reads_back, used_small, length-solution_text}
 use Rattle.sol_text.proofs.write.write_sol.Goals as goal

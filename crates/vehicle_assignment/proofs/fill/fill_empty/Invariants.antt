@@ -1,7 +1,7 @@
 -- The routes so far, followed by those of the remaining vehicles, are the routes of all vehicles.
 use Rattle.std.proofs.Common.{◌≡◌, ◌++◌}
 use Rattle.std.specs.Vec.Iter.{into_iter_items}
-use Rattle.sol_text.specs.Written.{used_routes}
+use Rattle.route_sched.specs.Cost.{used_routes}
 use Rattle.vehicle_assignment.specs.Assignments.{fill_empty}
 use Rattle.vehicle_assignment.proofs.fill.fill_empty.Given as goal
 

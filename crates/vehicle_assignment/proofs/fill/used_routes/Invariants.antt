@@ -1,7 +1,7 @@
 -- The used routes so far, followed by those among the remaining routes, are all used routes.
 use Rattle.std.proofs.Common.{◌≡◌, ◌++◌}
 use Rattle.std.specs.Vec.Iter.{into_iter_items}
-use Rattle.sol_text.specs.Written.{used_routes}
+use Rattle.route_sched.specs.Cost.{used_routes}
 use Rattle.vehicle_assignment.proofs.fill.used_routes.Given as goal
 
 abbrev pub invariant-loop-route : goal.invariant-loop-route
