@@ -20,7 +20,7 @@ use Rattle.route_sched.specs.Cost.{unplanned_count, vehicle_count, total_length,
 use Rattle.route_sched.specs.Route.{stop_numbered}
 use Rattle.route_sched.specs.Schedule.{route_length}
 use Rattle.plan_audit.specs.Locality.{PassingIsLocal}
-use Rattle.slack_tables.proofs.InsertLemmas.{request-valid, single-found, stands}
+use Rattle.slack_tables.proofs.InsertLemmas.{request-valid, single-found, stop-is-found}
 use Rattle.move_ops.specs.Changes.{AreVehiclesOf}
 use Rattle.move_ops.specs.Drafts.{DraftState, draft_of, IsDraftOf}
 use Rattle.move_ops.specs.Costing.{IsCostIfMade}
@@ -132,7 +132,7 @@ seat_is p routes name s v k valid named at =
     }
 
 numbered : NamedRequestsAreFound → (p : Instance) (name : ℕ) (s : Stop) → IsInstance p → request_named p name ≡ Some (Single s) → stop_numbered p s.number ≡ s
-numbered found p name s valid named = stands p name (Single s) s found valid named (request-valid p name (Single s) valid named).0 (single-found s)
+numbered found p name s valid named = stop-is-found p name (Single s) s found valid named (request-valid p name (Single s) valid named).0 (single-found s)
 
 -- ---- the number of a single
 is_number : (s : Stop) (n : ℕ) → IsSome (stop_in n (Single s)) → n ≡ s.number

@@ -34,46 +34,46 @@ pub(crate) fn shared_prefix_length(known: &[PlaceSlack], route: &[u32]) -> usize
 pub(crate) fn progress_after_prefix(
     problem: &Problem,
     known: &[PlaceSlack],
-    front: usize,
+    prefix_len: usize,
 ) -> Progress
     requires prefixes { KnowsPrefixes problem.now known.now }
-    requires known { 0 < front → front + 1 < length known.now }
-    ensures { (route : List ℕ) → IsSharedPrefix known.now route front
-        → HasReached problem.now route front result }
+    requires known { 0 < prefix_len → prefix_len + 1 < length known.now }
+    ensures { (route : List ℕ) → IsSharedPrefix known.now route prefix_len
+        → HasReached problem.now route prefix_len result }
 {
-    if front == 0 {
+    if prefix_len == 0 {
         return at_depot(&problem.depot);
     }
-    known[front].at
+    known[prefix_len].at
 }
 
 /// Returns the last stop of the shared prefix, or the depot if the prefix is empty.
 pub(crate) fn stop_after_prefix<'a>(
     problem: &'a Problem,
     known: &'a [PlaceSlack],
-    front: usize,
+    prefix_len: usize,
 ) -> &'a Stop
     requires prefixes { KnowsPrefixes problem.now known.now }
-    requires known { 0 < front → front + 1 < length known.now }
-    ensures { (route : List ℕ) → IsSharedPrefix known.now route front
-        → result.now ≡ place problem.now route front }
+    requires known { 0 < prefix_len → prefix_len + 1 < length known.now }
+    ensures { (route : List ℕ) → IsSharedPrefix known.now route prefix_len
+        → result.now ≡ place problem.now route prefix_len }
 {
-    if front == 0 {
+    if prefix_len == 0 {
         return &problem.depot;
     }
-    &known[front].at.stop
+    &known[prefix_len].at.stop
 }
 
 /// Copies the places of the shared prefix from the table, except for what depends on later places.
-pub(crate) fn copy_prefix(places: &mut [PlaceSlack], known: &[PlaceSlack], front: usize)
-    requires known { 0 < front → front + 1 < length known.now }
-    requires few { front ≤ 40001 }
+pub(crate) fn copy_prefix(places: &mut [PlaceSlack], known: &[PlaceSlack], prefix_len: usize)
+    requires known { 0 < prefix_len → prefix_len + 1 < length known.now }
+    requires few { prefix_len ≤ 40001 }
     ensures len { length places.new ≡ length places.old }
     ensures opened { (p : Instance) (route : List ℕ) → KnowsPrefixes p known.now
-        → IsSharedPrefix known.now route front → AreForwardRowsTo (place p route) 1 places.old
-        → AreForwardRowsTo (place p route) (front + 1) places.new }
+        → IsSharedPrefix known.now route prefix_len → AreForwardRowsTo (place p route) 1 places.old
+        → AreForwardRowsTo (place p route) (prefix_len + 1) places.new }
 {
-    for k in 0..front {
+    for k in 0..prefix_len {
         set_place(places, k + 1, known[k + 1].at);
     }
 }
