@@ -1,6 +1,6 @@
 -- The text for a refused file: the sentence on its fault, the line that the fault names, and notes on the whole
 -- file.
-use Rattle.std.specs.Prelude.{ℕ, ◌==◌, ◌&&◌, ◌||◌, not, Bool, false, List, [], ◌∷◌, ◌++◌, length, codes, Option, Some, None, decimal, if◌then◌else◌}
+use Rattle.std.specs.Prelude.{ℕ, nat_eq, ◌==◌, ◌&&◌, ◌||◌, not, Bool, false, List, [], ◌∷◌, ◌++◌, length, codes, Option, Some, None, decimal, if◌then◌else◌}
 use Rattle.std.specs.List.{list_any}
 use Rattle.text_lines.specs.Lines.{lines_of}
 use Rattle.text_lines.specs.Words.{words_of}
@@ -88,9 +88,32 @@ has_bom _ = false
 abbrev pub bom_note : List ℕ → List ℕ
 bom_note text = text_if (codes "the text begins with a byte order mark (EF BB BF): save it without, or by tail -c +4\n") (has_bom text)
 
+-- the file begins with U+FEFF in UTF-16, of either byte order
+abbrev pub is_utf16 : List ℕ → Bool
+is_utf16 (a ∷ b ∷ rest) = (a == 255 && b == 254) || (a == 254 && b == 255)
+is_utf16 _ = false
+
+abbrev pub utf16_note : List ℕ → List ℕ
+utf16_note text = text_if (codes "the text is UTF-16: save it as UTF-8, or by iconv -f UTF-16 -t UTF-8\n") (is_utf16 text)
+
+-- the file has carriage returns (13) but no line feed (10), so all of it is one line
+abbrev pub has_only_returns : List ℕ → Bool
+has_only_returns text = list_any (nat_eq 13) text && not (list_any (nat_eq 10) text)
+
+abbrev pub line_end_note : List ℕ → List ℕ
+line_end_note text = text_if (codes "the lines end with CR only: save them with LF, or by tr '\\r' '\\n'\n") (has_only_returns text)
+
+-- notes on a file that is no plain text with line feeds
+abbrev pub encoding_notes : List ℕ → List ℕ
+encoding_notes text = bom_note text ++ utf16_note text ++ line_end_note text
+
 -- the line has the key of the number of nodes or of their coordinates
 abbrev pub is_vrp_line : List ℕ → Bool
 is_vrp_line line = is_key (codes "DIMENSION") line || is_key (codes "NODE_COORD_SECTION") line
+
+-- the line begins a part of an instance in Solomon's format
+abbrev pub is_solomon_line : List ℕ → Bool
+is_solomon_line line = is_key (codes "VEHICLE") line || is_key (codes "CUSTOMER") line
 
 -- the line has the nine numbers of a task
 abbrev pub has_nine_numbers : List ℕ → Bool
@@ -102,17 +125,29 @@ solomon_note text =
     if list_any is_vrp_line (lines_of text) then codes "the text looks like a .vrp instance, and is read as solomon\n"
     else text_if (codes "the text looks like a Li-Lim instance, and is read as solomon\n") (list_any has_nine_numbers (lines_of text))
 
+-- a note if an instance that is read as Li and Lim's looks as if it had another format
+abbrev pub lilim_note : List ℕ → List ℕ
+lilim_note text =
+    if list_any is_vrp_line (lines_of text) then codes "the text looks like a .vrp instance, and is read as lilim\n"
+    else text_if (codes "the text looks like a Solomon instance, and is read as lilim\n") (list_any is_solomon_line (lines_of text))
+
+-- a note if an instance that is read as a `.vrp` file looks as if it had another format
+abbrev pub vrp_note : List ℕ → List ℕ
+vrp_note text =
+    if list_any has_nine_numbers (lines_of text) then codes "the text looks like a Li-Lim instance, and is read as vrp\n"
+    else text_if (codes "the text looks like a Solomon instance, and is read as vrp\n") (list_any is_solomon_line (lines_of text))
+
 -- a note if an instance that is read with this layout looks as if it had another one
 abbrev pub layout_note : Layout → List ℕ → List ℕ
-layout_note LiLim text = text_if (codes "the text looks like a .vrp instance, and is read as lilim\n") (list_any is_vrp_line (lines_of text))
+layout_note LiLim text = lilim_note text
 layout_note Solomon text = solomon_note text
-layout_note Vrp text = text_if (codes "the text looks like a Li-Lim instance, and is read as vrp\n") (list_any has_nine_numbers (lines_of text))
+layout_note Vrp text = vrp_note text
 
 -- the text for an instance that was read in this format and has this fault
 abbrev pub instance_fault_text : Format → List ℕ → ReadFault → List ℕ
 instance_fault_text format text fault =
-    instance_sentence format text fault ++ under_sentence text fault.line ++ bom_note text ++ layout_note format.layout text
+    instance_sentence format text fault ++ under_sentence text fault.line ++ encoding_notes text ++ layout_note format.layout text
 
 -- the text for a solution with this fault
 abbrev pub solution_fault_text : List ℕ → SolFault → List ℕ
-solution_fault_text text fault = solution_sentence text fault ++ under_sentence text fault.line ++ bom_note text
+solution_fault_text text fault = solution_sentence text fault ++ under_sentence text fault.line ++ encoding_notes text

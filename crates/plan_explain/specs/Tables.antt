@@ -61,17 +61,17 @@ stop_visits_of p route = map (stop_visit_after p route) (range_with_len 0 (lengt
 abbrev pub departure : StopVisit → ℕ
 departure h = h.row.start - h.leg
 
--- A problem of kind `Vrp` has no times: its rows leave out start, window and service.
+-- A problem of kind `Vrp` has no times: its rows leave out arrival, start, window and service.
 abbrev pub heading : Kind → List ℕ
 heading LiLim = codes "place   stop      leg    arrival      start         window          service      load\n"
-heading Vrp = codes "place   stop      leg    arrival      load\n"
+heading Vrp = codes "place   stop      leg      load\n"
 
 -- the values of a row, with a mark if the vehicle is overloaded and one if it is late
 unfoldable pub row_values_text : Kind → StopVisit → Bool → Bool → List ℕ
 row_values_text LiLim h much late = form (codes "@ @ @ @ @ @..@ @ @@@\n") (right 5 h.row.place ∷ right 6 h.row.stop ∷ right 8 h.leg ∷ right 10 h.row.arrival
     ∷ right 10 h.row.start ∷ right 10 h.row.earliest ∷ left 10 h.row.latest ∷ right 8 h.service ∷ right_signed 9 h.row.load
     ∷ text_if (codes "  overload") much ∷ text_if (codes "  late") late ∷ [])
-row_values_text Vrp h much late = form (codes "@ @ @ @ @@@\n") (right 5 h.row.place ∷ right 6 h.row.stop ∷ right 8 h.leg ∷ right 10 h.row.arrival
+row_values_text Vrp h much late = form (codes "@ @ @ @@@\n") (right 5 h.row.place ∷ right 6 h.row.stop ∷ right 8 h.leg
     ∷ right_signed 9 h.row.load ∷ text_if (codes "  overload") much ∷ text_if (codes "  late") late ∷ [])
 
 abbrev pub row_text : Instance → StopVisit → List ℕ

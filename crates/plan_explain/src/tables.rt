@@ -35,7 +35,7 @@ fn heading(kind: Kind) -> &'static str
     match kind {
         Kind::LiLim =>
             "place   stop      leg    arrival      start         window          service      load\n",
-        Kind::Vrp => "place   stop      leg    arrival      load\n",
+        Kind::Vrp => "place   stop      leg      load\n",
     }
 }
 
@@ -62,12 +62,11 @@ fn put_row_values(text: &mut TextBuffer, kind: Kind, visit: &StopVisit, much: bo
 {
     let row = &visit.row;
     let (place, stop) = (Right(5, row.place), Right(6, u64::from(row.stop)));
-    let (leg, arrival) = (Right(8, u64::from(visit.leg)), Right(10, row.arrival));
-    let load = RightSigned(9, row.load);
+    let (leg, load) = (Right(8, u64::from(visit.leg)), RightSigned(9, row.load));
     let (much, late) = (TextIf("  overload", much), TextIf("  late", late));
     match kind {
         Kind::LiLim => {
-            let start = Right(10, row.start);
+            let (arrival, start) = (Right(10, row.arrival), Right(10, row.start));
             let earliest = Right(10, u64::from(row.earliest));
             let latest = Left(10, u64::from(row.latest));
             let service = Right(8, u64::from(visit.service));
@@ -77,8 +76,8 @@ fn put_row_values(text: &mut TextBuffer, kind: Kind, visit: &StopVisit, much: bo
             put_template(text, "@ @ @ @ @ @..@ @ @@@\n", &values)
         }
         Kind::Vrp => {
-            let values = [place, stop, leg, arrival, load, much, late];
-            put_template(text, "@ @ @ @ @@@\n", &values)
+            let values = [place, stop, leg, load, much, late];
+            put_template(text, "@ @ @ @@@\n", &values)
         }
     }
 }
