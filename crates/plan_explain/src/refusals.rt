@@ -17,10 +17,10 @@ use std::alloc::Global;
 use text_buffer::TextBuffer;
 use text_lines::{Lines, word_count};
 
-/// Returns the sentence on a fault of an instance that was read in this format. Below it is the line that the
-/// fault names, if the file has that line: its first 200 bytes, with `?` for each byte that is neither
-/// printable ASCII nor a tab. Notes follow if the file begins with a byte order mark, has lines that end with CR
-/// only, or looks like an instance in another format.
+/// Returns the sentence on a fault of an instance that was read in this format. If the file has the line that
+/// the fault names, its first 200 bytes follow, with `?` for each byte that is neither printable ASCII nor a
+/// tab. Notes follow if the file begins with a byte order mark, has lines that end with CR only, or looks like
+/// an instance in another format.
 pub fn explain_instance_fault(
     alloc: Global,
     format: Format,
@@ -38,8 +38,8 @@ pub fn explain_instance_fault(
     answer.into_string()
 }
 
-/// Returns the sentence on a fault of a solution, the line that it names, and the notes on byte order marks and
-/// line ends, like `explain_instance_fault`.
+/// Returns the sentence on a fault of a solution, the line that it names, and notes on byte order marks and line
+/// ends. The line is quoted as by `explain_instance_fault`.
 pub fn explain_solution_fault(
     alloc: Global,
     text: &[u8],
@@ -134,7 +134,7 @@ fn solution_reason(fault: SolFaultKind) -> &'static str
     }
 }
 
-// Ends the sentence's line, and appends the line with this number, if the file has it.
+// Ends the line of the sentence, and appends the line of the file with this number, if there is one.
 fn put_line_under(answer: &mut TextBuffer, text: &[u8], number: u64)
     ensures { answer.new ≡ answer.old ++ under_sentence text.now number }
 {
@@ -193,7 +193,7 @@ fn has_only_returns(refused: &[u8]) -> bool
     refused.iter().any(|byte| *byte == b'\r') && !refused.iter().any(|byte| *byte == b'\n')
 }
 
-// Appends a note if an instance that is read with this layout looks as if it had another one.
+// Appends a note if an instance that was read with this layout seems to have another layout.
 fn put_layout_note(text: &mut TextBuffer, layout: Layout, instance: &[u8])
     ensures { text.new ≡ text.old ++ layout_note layout instance.now }
 {

@@ -1,4 +1,4 @@
-//! A line for each route, and the sums.
+//! The summary of a solution: a line for each route, and the sums.
 ghost use Rattle.std.specs.Prelude.{◌≡◌, ◌++◌, ◌<◌, ◌^◌, All, IfOk, OnOk, fold, map, pos, sum_by};
 ghost use Rattle.std.specs.Int.{int_max};
 ghost use Rattle.route_sched.specs.Route.{AreDistinctStops};
@@ -15,18 +15,19 @@ use rule_violations::visit_after;
 use std::alloc::Global;
 use text_buffer::TextBuffer;
 
-/// The totals of a route.
+/// The totals of a route. Distance and times are in the problem's unit, the load in the unit of its demands.
 #[derive(Clone, Copy, Debug, PartialEq, Eq)]
 pub struct Summary {
     pub stops: u64,
+    /// The sum of the legs, including those from and to the depot.
     pub distance: u64,
-    /// The greatest load of the vehicle.
+    /// The greatest load of the vehicle, at least 0.
     pub load: i64,
     /// The departure from the depot that makes the vehicle arrive at the first stop just when service starts.
     pub departure: u64,
     /// The time when the vehicle is back at the depot.
     pub return_time: u64,
-    /// The total waiting time.
+    /// The total waiting time at the stops.
     pub waiting: u64,
 }
 
@@ -62,8 +63,7 @@ fn summaries(
     Ok(summaries)
 }
 
-/// Returns the totals of a route. Distance and times are in the problem's unit, the load in the unit of its
-/// demands.
+/// Returns the totals of a route.
 pub fn summary_of(alloc: Global, problem: &Problem, route: &[u32]) -> Result<Summary, OutOfMemory>
     requires { AreDistinctStops problem.now route.now }
     ensures { IfOk result (λ summary. summary ≡ summary_of problem.now route.now) }
@@ -102,7 +102,7 @@ fn waiting(problem: &Problem, route: &[u32], rows: &[Row]) -> u64
     waiting
 }
 
-/// Returns the waiting time at the place of a row.
+/// Returns the waiting time at the place of a row: the start of service minus the arrival.
 pub fn waiting_time(row: &Row) -> u64
     ensures value { result ≡ waiting_time row.now }
     ensures fits { row.now.start < 2 ^ 64 }

@@ -13,7 +13,7 @@ use std::alloc::Global;
 use text_buffer::TextBuffer;
 
 /// Appends the table of a route: each place with the leg to it, its times, window, service and load. The return
-/// is the last row.
+/// is the last row. In a problem of kind `Vrp`, rows have no start, window and service.
 pub(crate) fn put_table(
     alloc: Global,
     text: &mut TextBuffer,
@@ -55,7 +55,7 @@ fn put_row(text: &mut TextBuffer, problem: &Problem, visit: &StopVisit)
     put_row_values(text, problem.kind, visit, much, late);
 }
 
-// Appends the values of a row, with a mark if the vehicle is overloaded and one if it is late.
+// Appends the values of a row, marked as `overload` if `much` is true and as `late` if `late` is true.
 #[tactic(auto, unfolding(crate::specs::Tables::row_values_text))]
 fn put_row_values(text: &mut TextBuffer, kind: Kind, visit: &StopVisit, much: bool, late: bool)
     ensures { text.new ≡ text.old ++ row_values_text kind visit.now much late }
@@ -82,7 +82,7 @@ fn put_row_values(text: &mut TextBuffer, kind: Kind, visit: &StopVisit, much: bo
     }
 }
 
-/// Appends the places of a route with their stops, without times, under this heading.
+/// Appends this heading, and the places of a route with their stops but without times.
 #[tactic(auto, unfolding(crate::specs::Tables::stops_table))]
 pub(crate) fn put_stops(text: &mut TextBuffer, heading: &str, route: &[u32])
     ensures { text.new ≡ text.old ++ stops_table heading.now route.now }
