@@ -133,7 +133,7 @@ fn reason_of(alloc: Global, job: &Job, name: u32) -> Result<String, OutOfMemory>
     reason(alloc, LinePrefix::Named, &job.problem, pins, routes, name)
 }
 
-/// Prints which requests are left out, if any.
+/// Prints the line of the requests that are left out; nothing if there are none.
 pub(crate) fn print_left_out<E: Write>(errors: &mut E, names: &[u32]) -> io::Result<()>
     ensures { OnOk result (Appends (E.contents errors.old) (E.contents errors.new)
         (left_out_text names.now)) }
@@ -144,7 +144,7 @@ pub(crate) fn print_left_out<E: Write>(errors: &mut E, names: &[u32]) -> io::Res
     print_unplanned(errors, names)
 }
 
-/// Prints `unplanned N: R1 R2 ..`.
+/// Prints `unplanned N: R1 R2 ..`, with the number and the names of these requests.
 pub(crate) fn print_unplanned<E: Write>(errors: &mut E, names: &[u32]) -> io::Result<()>
     ensures { OnOk result (Appends (E.contents errors.old) (E.contents errors.new)
         (unplanned_line names.now)) }
@@ -157,7 +157,7 @@ pub(crate) fn print_unplanned<E: Write>(errors: &mut E, names: &[u32]) -> io::Re
     errors.write_all(b"\n")
 }
 
-/// Prints why there is no plan.
+/// Prints why there is no plan, and returns the exit status.
 pub(crate) fn print_solve_fault<E: Write>(fault: SolveFault, errors: &mut E) -> io::Result<u8>
     ensures status { IfOk result (λ status. status ≤ 4) }
     ensures reported { IfOk result (PrintsSolveFault fault (E.contents errors.old) (E.contents errors.new)) }
