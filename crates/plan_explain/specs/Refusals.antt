@@ -1,6 +1,6 @@
 -- The text for a refused file: the sentence on its fault, the line that the fault names, and notes on the whole
 -- file.
-use Rattle.std.specs.Prelude.{ℕ, nat_eq, ◌==◌, ◌&&◌, ◌||◌, not, Bool, false, List, [], ◌∷◌, ◌++◌, length, codes, Option, Some, None, decimal, if◌then◌else◌}
+use Rattle.std.specs.Prelude.{ℕ, ◌==◌, ◌&&◌, ◌||◌, not, Bool, false, List, [], ◌∷◌, ◌++◌, length, codes, Option, Some, None, decimal, if◌then◌else◌}
 use Rattle.std.specs.List.{list_any}
 use Rattle.text_lines.specs.Lines.{lines_of}
 use Rattle.text_lines.specs.Words.{words_of}
@@ -99,9 +99,12 @@ is_utf16 _ = false
 abbrev pub utf16_note : List ℕ → List ℕ
 utf16_note text = text_if (codes "the text is UTF-16: save it as UTF-8, or by iconv -f UTF-16 -t UTF-8\n") (is_utf16 text)
 
+abbrev pub has_byte : ℕ → List ℕ → Bool
+has_byte byte text = list_any (λ b. b == byte) text
+
 -- the file has carriage returns (13) but no line feed (10), so all of it is one line
 abbrev pub has_only_returns : List ℕ → Bool
-has_only_returns text = list_any (nat_eq 13) text && not (list_any (nat_eq 10) text)
+has_only_returns text = has_byte 13 text && not (has_byte 10 text)
 
 -- a note if the lines of the file end with carriage returns only
 abbrev pub line_end_note : List ℕ → List ℕ

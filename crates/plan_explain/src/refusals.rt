@@ -3,7 +3,7 @@
 ghost use Rattle.std.specs.Prelude.{◌≡◌, ◌++◌, IfOk, string_bytes};
 ghost use Rattle.std.specs.List.{list_any};
 ghost use Rattle.text_lines.specs.Lines.{lines_of};
-ghost use Rattle.plan_explain.specs.Refusals.{bom_note, encoding_notes, has_nine_numbers, has_only_returns, instance_fault_text, instance_reason, instance_sentence, is_solomon_line, is_utf16, is_vrp_line, layout_note, lilim_note, line_end_note, missing_line, out_of_order, solomon_note, solution_fault_text, solution_reason, solution_sentence, too_many, under_sentence, utf16_note, vrp_note};
+ghost use Rattle.plan_explain.specs.Refusals.{bom_note, encoding_notes, has_byte, has_nine_numbers, has_only_returns, instance_fault_text, instance_reason, instance_sentence, is_solomon_line, is_utf16, is_vrp_line, layout_note, lilim_note, line_end_note, missing_line, out_of_order, solomon_note, solution_fault_text, solution_reason, solution_sentence, too_many, under_sentence, utf16_note, vrp_note};
 
 use crate::evidence::put_evidence;
 use crate::quotes::{is_key, line_at};
@@ -190,7 +190,13 @@ fn put_line_end_note(text: &mut TextBuffer, refused: &[u8])
 fn has_only_returns(refused: &[u8]) -> bool
     ensures { result ≡ has_only_returns refused.now }
 {
-    refused.iter().any(|byte| *byte == b'\r') && !refused.iter().any(|byte| *byte == b'\n')
+    has_byte(b'\r', refused) && !has_byte(b'\n', refused)
+}
+
+fn has_byte(byte: u8, text: &[u8]) -> bool
+    ensures { result ≡ has_byte byte text.now }
+{
+    text.iter().any(|b| *b == byte)
 }
 
 // Appends a note if an instance that was read with this layout seems to have another layout.
