@@ -312,8 +312,8 @@ fn builds_of(alloc: Global, text: &[u8], loaded: &ServeResult, built: &ServeResu
 enum FaultPosition {
     Before,
     Within {
-        /// Whether the state is wrong: neither the one before the build nor the one after it, or another after a
-        /// crash.
+        /// Whether the store opens with a wrong state: one that is neither that before the build nor that after
+        /// it, or that changes by a crash.
         is_wrong: bool,
     },
     After,
