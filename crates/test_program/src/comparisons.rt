@@ -81,7 +81,7 @@ fn compares_with_the_best_known_cost(rt: HostRuntime) -> Result<(), Fail> {
     check_comparisons(&rt, &COMPARISONS)
 }
 
-/// Columns that are no best-known cost for their kind of problem.
+/// Columns that hold no best-known cost for a problem of their kind.
 const REFUSED: [(Kind, &str); 16] = [
     (Kind::LiLim, ""),
     (Kind::LiLim, "0"),
