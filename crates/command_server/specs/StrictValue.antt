@@ -7,6 +7,7 @@ use Rattle.command_server.specs.TrackedStream.{held}
 use Rattle.command_server.specs.Streams.{Event, Extends, Stream, put_by}
 use Rattle.command_server.specs.Strict.{Follows, FlushesAllow}
 
+-- The value of a `StrictWriter` over a writer of type `W`.
 pub record StrictWriterValue (W : Type 0) : Type 0 where
   pub writer : FailureTracking W
   -- The contents and events of the writer when it was wrapped.

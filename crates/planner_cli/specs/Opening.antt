@@ -42,8 +42,8 @@ abbrev pub is_not_found : Option ErrorKind → Bool
 is_not_found (Some NotFound) = true
 is_not_found _ = false
 
--- If the file could not be opened as a device, standard error is unchanged. Otherwise the number of search steps
--- to replay may have been printed on it.
+-- If the file could not be opened as a device, the stream `errors` is as it was. Otherwise the number of search
+-- steps to replay may have been printed on it.
 abbrev pub MayAnnounceReplay : {D : Type 0} → OpenFailure D → Option (List ℕ) → Option (List ℕ) → Type 0
 MayAnnounceReplay (File refusal) before after = after ≡ before
 MayAnnounceReplay _ before after = Unit {0}

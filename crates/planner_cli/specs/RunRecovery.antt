@@ -37,8 +37,8 @@ pub record Run : Type 0 where
 abbrev pub EveryReadingHasAnInput : Type 0
 EveryReadingHasAnInput = (given : Given) → (input : List ℕ) × IsInput given input
 
--- The statement holds for the one function that defines the contents of each text. There is only one such
--- function (`ReadingsAgree`).
+-- The statement holds for the one reading: the function that defines the contents of each text. There is only
+-- one such function (`ReadingsAgree`).
 abbrev pub ForTheReading : ((reading : Reading) → IsReading reading → Type 0) → Type 0
 ForTheReading Says = (reading : Reading) × (reads : IsReading reading) × Says reading reads
 
@@ -54,7 +54,7 @@ module _ {D : Type 0} (on : sectors.Ghosts D) where
     pub new : SessionValue D
     pub runs : ServesSession on session replayed run.is_strict given run.before run.after run.reader_failed run.writer_failed new
 
-  -- The operations and texts by which the input was served.
+  -- The acts by which the input was served: operations, and requests of memory for texts.
   abbrev pub acts_in : (reading : Reading) → IsReading reading → (run : Run) (device : D) → RunsOver run device → List Act
   acts_in reading reads run device is =
       acts_of on is.runs.served reading is.session run.input is.runs.opened is.runs.answered is.new

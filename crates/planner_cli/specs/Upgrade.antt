@@ -1,6 +1,7 @@
 -- The subcommand `upgrade`: it reads a store of version 1 completely, and then makes a store with its state in
--- another file. `reported` is the exit status, or an error if printing the answer failed. Then at most a prefix
--- of the answer was written, and everything else holds nevertheless. `left` are the devices afterwards.
+-- another file. `reported` is the exit status, or an error if printing the answer failed; everything else holds
+-- in both cases. If printing failed, at most a prefix of the answer was written. `left` are the devices
+-- afterwards.
 use Rattle.std.specs.Prelude.{◌≡◌, ◌≢◌, ◌⊎◌, ℕ, Bool, true, false, List, ◌∷◌, Option, Some, None, Result, MatchResult, codes}
 use Rattle.checkpoint.specs.declared.faults.StoreFault.{StoreFault}
 use Rattle.command_types.specs.declared.states.State.{State}
