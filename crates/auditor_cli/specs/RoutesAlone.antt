@@ -9,13 +9,8 @@ abbrev pub before_cost : List (List ℕ) → List (List ℕ)
 before_cost [] = []
 before_cost (line ∷ lines) = if is_cost_line line then [] else line ∷ before_cost lines
 
-<<<<<<< HEAD
--- A line with a carriage return and a line feed. The reader strips one carriage return, so it reads back even a
--- line that ends with one.
-=======
 -- A line, a carriage return and a line feed. The reader strips only this carriage return, so a line that ends
 -- with another one is read back unchanged.
->>>>>>> a3230a8aee1aab87f2e2b7f20df5daf11d631008
 abbrev pub ended_whole : List ℕ → List ℕ
 ended_whole line = line ++ 13 ∷ 10 ∷ []
 

@@ -91,13 +91,8 @@ fn places_text(alloc: Global, hundredths: u128) -> Result<String, OutOfMemory>
     format!(in alloc; ".{tenths}{last}")
 }
 
-<<<<<<< HEAD
-/// Returns ` vehicles ` and, with its sign, the number of vehicles that a plan uses more than the best-known
-/// cost has.
-=======
 /// Returns ` vehicles ` and the difference between the vehicles of a plan and those of the best-known cost, with
 /// its sign.
->>>>>>> a3230a8aee1aab87f2e2b7f20df5daf11d631008
 pub(crate) fn vehicles_text(alloc: Global, vehicles: u64, best: u64) -> Result<String, OutOfMemory>
     ensures { IfOk result (λ text. string_bytes text ≡ vehicles_text vehicles best) }
 {

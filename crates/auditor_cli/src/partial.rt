@@ -50,13 +50,8 @@ pub fn examine_plan(
     }
 }
 
-<<<<<<< HEAD
-// Examines two texts whose solution is refused with this fault. Only if it lacks the cost line, it may be a
-// partial plan.
-=======
 // Examines two texts whose solution is refused with this fault. The solution may be a partial plan only if the
 // fault is its missing cost line.
->>>>>>> a3230a8aee1aab87f2e2b7f20df5daf11d631008
 fn partial_or_refused(
     alloc: Global,
     format: Format,

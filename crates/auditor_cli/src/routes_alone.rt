@@ -37,8 +37,8 @@ fn add_routes(text: &mut Vec<u8>, solution: &[u8]) -> Result<(), OutOfMemory>
     Ok(())
 }
 
-// Appends the line and its end. The reader strips one carriage return, so it reads back even a line that ends
-// with one.
+// Appends the line, a carriage return and a line feed. The reader strips only this carriage return, so a line
+// that ends with another one is read back unchanged.
 fn add_line(text: &mut Vec<u8>, line: &[u8]) -> Result<(), OutOfMemory>
     ensures { OnOk result (text.new.items ≡ text.old.items ++ ended_whole line.now) }
 {
