@@ -3,6 +3,9 @@ use Rattle.std.specs.Prelude.{◌≡◌, ℕ, ◌==◌, if◌then◌else◌, ◌
 use Rattle.std.specs.Io.KnownBytes.{Appends}
 use Rattle.std.specs.List.{flat_map}
 use Rattle.std.specs.declared.io.ErrorKind.{ErrorKind}
+use Rattle.plan_types.specs.declared.requests.Kind.{Kind}
+use Rattle.plan_types.specs.declared.requests.Kind.TheVariants.{LiLim, Vrp}
+use Rattle.route_sched.specs.Cost.{used_count}
 use Rattle.instance_read.specs.Names.{kind_name}
 use Rattle.command_types.specs.Job.{JobValue}
 use Rattle.request_explanation.specs.Why.{reason_text}
@@ -37,6 +40,12 @@ PrintsSolveFault f before after status = (status ≡ fault_status f) × Appends 
 abbrev pub unplanned_line : List ℕ → List ℕ
 unplanned_line names = line (codes "unplanned " ++ decimal (length names) ++ codes ":" ++ customers_text names)
 
+-- The line `routes N`, with the number of routes that a plan uses; empty for kind `LiLim`, since the cost of such a
+-- plan has this number.
+abbrev pub route_count_text : Kind → List (List ℕ) → List ℕ
+route_count_text LiLim routes = []
+route_count_text Vrp routes = line (codes "routes " ++ decimal (used_count routes))
+
 -- The line of the requests that are left out; empty if there are none.
 abbrev pub left_out_text : List ℕ → List ℕ
 left_out_text names = if length names == 0 then [] else unplanned_line names
@@ -61,9 +70,12 @@ PrintsUnplanned j [] errors later status = (status ≡ 0) × Appends errors late
 PrintsUnplanned j (name ∷ names) errors later status =
     (reasons : List ℕ) × AreReasons j (name ∷ names) reasons status × Appends errors later (unplanned_line (name ∷ names) ++ reasons)
 
--- The text of a plan is printed on the output, and the requests that it leaves out on standard error.
+-- The text of a plan is printed on the output. The number of its routes, if its cost does not have it, and the
+-- requests that it leaves out are printed on standard error.
 abbrev pub PrintsPlan : SolvedPlan → Option (List ℕ) → Option (List ℕ) → Option (List ℕ) → Option (List ℕ) → ℕ → Type 0
-PrintsPlan solved output after errors later status = Appends output after solved.text.items × PrintsUnplanned solved.job solved.unplanned.items errors later status
+PrintsPlan solved output after errors later status =
+    Appends output after solved.text.items
+    × ((counted : Option (List ℕ)) × Appends errors counted (route_count_text solved.job.problem.kind solved.job.plan) × PrintsUnplanned solved.job solved.unplanned.items counted later status)
 
 -- The plan is printed; or the reason why there is none is printed on standard error.
 abbrev pub PrintsSolveResult : Result SolvedPlan SolveFault → Option (List ℕ) → Option (List ℕ) → Option (List ℕ) → Option (List ℕ) → ℕ → Type 0
