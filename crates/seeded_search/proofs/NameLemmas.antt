@@ -46,7 +46,7 @@ use Rattle.route_sched.specs.Cost.{is_planned, unplanned_count}
 use Rattle.move_ops.specs.Insertion.{route_of}
 use Rattle.move_ops.specs.Drafts.{AreIdleAfter}
 use Rattle.move_ops.specs.Moves.{is_movable}
-use Rattle.move_ops.proofs.Times.{none_some, some_same}
+use Rattle.move_ops.proofs.OccurrenceLemmas.{none_some, some_same}
 use Rattle.seeded_search.specs.Names.{name_where, names_where}
 use Rattle.seeded_search.specs.Steps.{movable_names, unplanned_names}
 
