@@ -1,7 +1,7 @@
 -- Bytes decode to exactly one result, which is returned
 use Rattle.std.proofs.Common.{arith}
 use Rattle.state_codec.proofs.DecodeLemmas.{decodes, only_this}
-use Rattle.state_codec.proofs.states.decoded.Goals as goal
+use Rattle.state_codec.proofs.states.decode_version.Goals as goal
 
 pub returns-clause-decodes : goal.returns-clause-decodes
 returns-clause-decodes c = decodes c.args.version c.args.bytes.now (λ i. omega (arith, c.type_inv.bytes i)) c.decode.result c.decode.ensures
