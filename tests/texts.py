@@ -294,10 +294,10 @@ EXPLAINED = [
         b"Route #2: 3\n"
         b"Cost 30\n",
         0,
-        "route  stops   distance      load    set off     return    waiting\n"
-        "    1      2         20        10          0         20          0\n"
-        "    2      1         10         5          0         10          0\n"
-        "  sum      3         30                                          0\n",
+        "route  stops   distance      load\n"
+        "    1      2         20        10\n"
+        "    2      1         10         5\n"
+        "  sum      3         30\n",
     ),
     (
         "vrp",
@@ -306,11 +306,11 @@ EXPLAINED = [
         b"Cost 0\n",
         6,
         "overload: after stop 3, demand 5, the load is 15, the capacity 10\n"
-        "place   stop      leg    arrival      load\n"
-        "    1      1        5          5         6\n"
-        "    2      2        5         10        10\n"
-        "    3      3        7         17        15  overload\n"
-        "    4      0        5         22        15  overload\n"
+        "place   stop      leg      load\n"
+        "    1      1        5         6\n"
+        "    2      2        5        10\n"
+        "    3      3        7        15  overload\n"
+        "    4      0        5        15  overload\n"
         "places that break this rule: 1\n",
     ),
     # Several faults together: each rule after the first one is counted, too.

@@ -17,9 +17,9 @@ use Rattle.plan_audit.specs.Locality.{FeasibilityIsLocal}
 use Rattle.move_ops.specs.Insertion.{request_named}
 use Rattle.move_ops.specs.Moves.{is_of_named}
 use Rattle.command_core.specs.Effects.{serves, route_without, remaining_route, remaining_routes}
-use Rattle.move_ops.proofs.Fitting.{often_had}
-use Rattle.move_ops.proofs.Removing.{times_kept}
-use Rattle.move_ops.proofs.Times.{none_some, some_same, times, times-append, once_few, once_from}
+use Rattle.move_ops.proofs.FitLemmas.{often_had}
+use Rattle.move_ops.proofs.PlanRemovalLemmas.{times_kept}
+use Rattle.move_ops.proofs.OccurrenceLemmas.{none_some, some_same, times, times-append, once_few, once_from}
 use Rattle.command_core.proofs.CountLemmas.{standing, at_most_once, distinct_from, all_standing, all_split, all_joined, times_front}
 use Rattle.command_types.proofs.PassLemmas.{parts_of, from_parts, Agree, feasible_same, all_feasible_same, known_same}
 

@@ -1,4 +1,5 @@
--- `reach N`, cut off by any fate of an attempt and repeated, ends in the same state as an uninterrupted one.
+-- If `reach N` is cut off, whatever the fates of its attempts are, and then repeated, it ends in the same state
+-- as without the interruption.
 use Rattle.std.proofs.Common.{◌≡◌, ◌∙◌, inl, inr, ℕ, zero, suc, ◌+◌, ◌-◌, ◌^◌, ◌<◌, ◌≤◌, Bool, true, false, None, if◌then◌else◌, List, [], ◌∷◌, map, Ok, Err, refl, sym, ap, subst, arith}
 use Rattle.std.specs.Prelude.{nat_le, sum_by, take}
 use Rattle.std.specs.List.{list_all}
@@ -24,11 +25,11 @@ use Rattle.command_text.specs.declared.steps.StepCursor.TheVariants as makes
 use Rattle.command_text.proofs.RepeatLemmas.{all_cut, all_whole}
 use Rattle.command_text.proofs.StepLemmas.{large_count, no_counts, small_count}
 
--- the operations of n search steps
+-- the operations that make n search steps
 abbrev searches : ℕ → List Command
 searches n = map Search (counts_of 256 n)
 
--- the operations are accepted, are searches, and make n steps
+-- the operations are searches that make n steps, and are accepted if they end at step 2^60 or before it
 record AreSearches (j : JobValue) (n : ℕ) (cs : List Command) : Type 0 where
   pub accepted : (0 < n → j.steps + n ≤ 2 ^ 60) → AreAccepted (Loaded j) cs
   pub searching : list_all is_searching cs ≡ true
@@ -73,7 +74,7 @@ all_searches (suc fuel) (suc n) within j = elim (leb_tells 256 (suc n)) [
       (subst (λ (k : ℕ). AreSearches j k (Search (suc n) ∷ searches (suc n - suc n))) sum whole))
 ]
 
--- a prefix of search operations makes no more steps than all of them
+-- the prefix `front` consists of searches, and makes no more steps than all operations
 record IsFront (cs front : List Command) : Type 0 where
   pub searching : list_all is_searching front ≡ true
   pub sum : sum_by steps_of front ≤ sum_by steps_of cs

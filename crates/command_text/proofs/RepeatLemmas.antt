@@ -1,5 +1,5 @@
--- `anneal FROM TO`, cut off by any fate of an attempt and repeated, ends in the same state as an uninterrupted
--- one.
+-- If `anneal FROM TO` is cut off, whatever the fates of its attempts are, and then repeated, it ends in the same
+-- state as without the interruption.
 use Rattle.std.proofs.Common.{
   ◌≡◌,
   ◌∙◌,
@@ -80,8 +80,9 @@ use Rattle.command_text.specs.declared.steps.StepCursor.TheVariants as makes
 use Rattle.command_text.specs.Staging.{hundredths_due, made_by, making, next_deviation, next_steps, set_before, stage_commands, staged_within}
 use Rattle.command_text.proofs.StagingLemmas.{due, no_load, none_is, some_is, stages_may_be_cut}
 
--- ---- the executed operations are a prefix
+-- ---- the executed operations are a prefix of the operations
 
+-- the state `left` follows from the given state by the first `count` operations
 pub record IsCutAt (steps_to_freeze : State) (commands : List Command) (left : State) : Type 0 where
   pub count : ℕ
   pub is : left ≡ after steps_to_freeze (take count commands)
@@ -134,6 +135,7 @@ all_whole s (c ∷ cs) accepted =
 abbrev pub stays : Command → Bool
 stays c = not (changes_requests c)
 
+-- the state `left` has a job that has made at least as many steps as j
 record GoesOn (j : JobValue) (left : State) : Type 0 where
   pub job : JobValue
   pub is : left ≡ Loaded job
@@ -174,6 +176,7 @@ free_deviation j (Some c) d is =
 module _ (from to : ℕ) where
   -- ---- all later operations are accepted and change no request
 
+  -- the operations are accepted if `to` is at most 2^60, and change no request
   record AreFit (j : JobValue) (cs : List Command) : Type 0 where
     pub accepted : to ≤ 2 ^ 60 → AreAccepted (Loaded j) cs
     pub stay : list_all stays cs ≡ true

@@ -94,9 +94,9 @@ pub enum Answer {
     /// The device failed in an earlier command.
     Broken,
     Refused(Refusal),
-    /// The instance's text has this fault.
+    /// The text of the instance has this fault.
     Read(ReadFault),
-    /// The solution's text is not a plan.
+    /// The text of the solution does not become a plan, for this reason.
     AssignmentFault(AssignmentFault),
     /// There are requests in no route, so there is no solution to print.
     Unplanned,
@@ -163,7 +163,7 @@ fn fault_line(fault: ReadFault) -> ShortLine
     }
 }
 
-// Returns the answer to a solution's text that is not a plan.
+// Returns the answer to the text of a solution that does not become a plan.
 fn unseated_line(why: AssignmentFault) -> ShortLine
     ensures { result ≡ unseated_text why }
 {
@@ -222,7 +222,7 @@ pub(crate) fn cost(job: &Job) -> Cost
     plan_cost(&job.problem, &job.plan)
 }
 
-/// Returns the line with the progress of a search: `at STEPS UNPLANNED VEHICLES DISTANCE`.
+/// Returns the line with the progress of a command that makes steps: `at STEPS UNPLANNED VEHICLES DISTANCE`.
 pub fn at_line(job: &Job) -> ShortLine
     ensures { result ≡ at_text job.now }
 {
@@ -235,11 +235,11 @@ pub fn at_line(job: &Job) -> ShortLine
     line
 }
 
-/// The line printed after an operation of a command that takes several.
+/// The line to print after an operation of a command that takes several.
 #[derive(Clone, Copy, Debug, PartialEq, Eq)]
 pub enum Progress {
     Nothing,
-    /// The steps so far (`at_line`).
+    /// The number of steps so far, and the cost (`at_line`).
     Stepped,
     /// The pin that was set (`pin_line`).
     Pinned { vehicle: u32, stops: u32 },
@@ -271,7 +271,7 @@ pub fn pin_line(vehicle: u32, stops: u32) -> ShortLine
     line
 }
 
-/// Returns the line with the number that the next order gets: `next N`. For a pair this is the number of its
+/// Returns the line with the number that the next request gets: `next N`. For a pair this is the number of its
 /// pickup.
 pub fn next_line(job: &Job) -> ShortLine
     ensures { result ≡ next_text job.now }

@@ -73,7 +73,7 @@ impl Text {
         self.put(buffer.format(n))
     }
 
-    // Appends a word, a blank and a number.
+    // Appends a name, which ends with a space, and a number.
     fn put_named(&mut self, name: &str, n: u64) -> Result<(), OutOfMemory>
         ensures { OnOk result (self.new ≡ self.old ++ (name.now ++ decimal n)) }
     {
@@ -97,7 +97,7 @@ impl Text {
         self.put("\n")
     }
 
-    // Appends each stop after a blank.
+    // Appends a space and the number of each stop.
     fn put_stops(&mut self, stops: &[u32]) -> Result<(), OutOfMemory>
         ensures { OnOk result (self.new ≡ self.old ++ customers_text stops.now) }
     {
@@ -151,7 +151,8 @@ impl Text {
         self.put("\n")
     }
 
-    // Appends 16 times this number of steps. The product may be 2^64.
+    // Appends 16 times this number of steps: the position of the next step's random words. The product may be
+    // 2^64.
     fn put_place(&mut self, steps: u64) -> Result<(), OutOfMemory>
         requires { steps ≤ 2 ^ 60 }
         ensures { OnOk result (self.new ≡ self.old ++ decimal (16 * steps)) }
@@ -172,7 +173,7 @@ impl Text {
 }
 
 /// Returns the lines of `show`: numbers, pins, routes, unplanned requests and costs. Takes linear time, except
-/// for `plan_cost`, which searches for the pickup of each delivery.
+/// that `plan_cost` searches the routes for the pickup of each delivery.
 pub fn show(alloc: Global, job: &Job) -> Result<Text, OutOfMemory>
     ensures { IfOk result (λ text. text ≡ show_text job.now) }
 {
@@ -195,14 +196,14 @@ fn work_cost(job: &Job) -> Cost
     plan_cost(&job.problem, &job.work)
 }
 
-/// Returns the solution's text, as `sol_text` writes it.
+/// Returns the text of the plan as a solution, as `sol_text` writes it.
 ///
 /// # Errors
 ///
 /// `Unplanned` if a request is in no route, then `OutOfMemory`.
 pub fn print(alloc: Global, job: &Job) -> Result<Text, WriteSolFault>
     ensures text { IfOk result (λ text. text ≡ print_text job.now) }
-    // The text reads back as this solution.
+    // The text reads back as the used routes of the plan, with their distance.
     ensures spells { IfOk result (λ text. Spells text (solution_of job.now)) }
     ensures unplanned { let n = unplanned_count job.now.problem job.now.plan in 0 < n
         → IsErrOf result (write.Unplanned n) }
@@ -216,11 +217,11 @@ pub fn print(alloc: Global, job: &Job) -> Result<Text, WriteSolFault>
     }
 }
 
-/// Returns the problem as an instance's text, as `instance_text` writes it.
+/// Returns the text of the problem as an instance, as `instance_text` writes it.
 ///
 /// # Errors
 ///
-/// `NoFormat` if no format can express it, then `OutOfMemory`.
+/// `NoFormat` if no format can express the problem, then `OutOfMemory`.
 pub fn print_instance(alloc: Global, job: &Job) -> Result<Text, WriteFault>
     ensures text { IfOk result (λ text. text ≡ instance_text job.now.problem) }
     ensures no_format { has_format job.now.problem ≡ false

@@ -1,4 +1,4 @@
-//! The steps of a command and the operations that make them. `freeze` makes pins instead of steps.
+//! The operations of a command that makes steps, or of `freeze`, which sets pins instead.
 ghost use Rattle.std.specs.Prelude.{◌≡◌, ◌-◌, ◌≤◌, ◌<◌, [], ◌∷◌, ◌^◌, MatchOption};
 ghost use Rattle.command_core.specs.Effects.{effect};
 ghost use Rattle.command_types.specs.declared.states.State.TheVariants.{Empty, Loaded};
@@ -18,12 +18,12 @@ pub(crate) const MAX_ANNEAL_STEPS: u32 = 16_384;
 /// operation.
 pub(crate) const MAX_REDUCE_STEPS: u32 = 524_288;
 
-/// A command that takes several operations: steps, or pins.
+/// A command that takes several operations, which make steps or set pins.
 #[derive(Clone, Copy, Debug, PartialEq, Eq)]
 pub enum StepRequest {
     /// This many search steps, 1..=`MAX_REQUESTED_STEPS`.
     Search(u32),
-    /// Search steps until the state has made this many, 0..=2^60.
+    /// Search steps until the state has made this number of steps, 0..=2^60.
     Reach(u64),
     /// This many annealing steps, 1..=`MAX_REQUESTED_STEPS`.
     Anneal(u32),
@@ -35,7 +35,7 @@ pub enum StepRequest {
     Freeze(u32),
 }
 
-/// The steps or pins that a command still has to make.
+/// The steps that a command still has to make, or the pins that it still has to set.
 #[derive(Clone, Copy, Debug, PartialEq, Eq)]
 pub enum StepCursor {
     /// This many search steps.
@@ -46,20 +46,20 @@ pub enum StepCursor {
     Reduce(u32),
     /// The rest of the steps `from..to` of annealing in stages.
     Stages { from: u64, to: u64 },
-    /// Like `Stages`, with the deviation of the stage already set.
+    /// The steps of `Stages`, once the deviation for the next steps is set.
     InStage { from: u64, to: u64 },
     /// The pins of `freeze` for this time, from vehicle `first` on.
     Freeze { time: u32, first: u32 },
 }
 
-/// Returns the steps that a command makes. For `reach N` these are the steps that the state lacks, none if it
-/// has made N or more.
+/// Returns the steps or pins that a command has to make. For `reach N` these are the steps that the state lacks,
+/// none if it has made N or more.
 ///
 /// # Errors
 ///
 /// `NoInstance` before the first `load`. `StepsSpent` if `search N`, `anneal N` or `reduce N` would pass 2^60
-/// steps. `Range` if `reach N` or `anneal FROM TO` lacks more than `MAX_REQUESTED_STEPS` steps, or if the state has
-/// not reached FROM. `NoTimes` for `freeze T` on an instance without times.
+/// steps. `Range` if `reach N` or `anneal FROM TO` lacks more than `MAX_REQUESTED_STEPS` steps, or if the state
+/// has not reached FROM. `NoTimes` for `freeze T` on an instance without times.
 pub fn steps_to_make(state: &State, goal: StepRequest) -> Result<StepCursor, Refusal>
     ensures { result ≡ steps_to_make state.now goal }
 {
@@ -82,7 +82,7 @@ fn steps_from(job: &Job, goal: StepRequest) -> Result<StepCursor, Refusal>
     }
 }
 
-// Returns the steps if the job may make this many more.
+// Returns these steps, or a refusal if the job would then have made more than 2^60.
 fn unless_spent(job: &Job, count: u32, steps: StepCursor) -> Result<StepCursor, Refusal>
     ensures { result ≡ unless_spent job.now count steps }
 {
@@ -113,7 +113,7 @@ fn steps_in_stages(job: &Job, from: u64, to: u64) -> Result<StepCursor, Refusal>
     }
 }
 
-// Returns the pins of `freeze` if the instance has times.
+// Returns the pins of `freeze`, or a refusal if the instance has no times.
 fn steps_to_freeze(kind: Kind, time: u32) -> Result<StepCursor, Refusal>
     ensures { result ≡ steps_to_freeze kind time }
 {
@@ -123,7 +123,7 @@ fn steps_to_freeze(kind: Kind, time: u32) -> Result<StepCursor, Refusal>
     }
 }
 
-/// Returns the next of these operations and the cursor after it, or `None` if none is left.
+/// Returns the next operation and the cursor after it, or `None` if no steps or pins are left.
 #[tactic(auto, using(crate::proofs::StepLemmas::no_counts))]
 pub fn next_command(steps: StepCursor, state: &State) -> Option<(Command, StepCursor)>
     ensures { MatchOption result (commands_of steps state.now ≡ [])
@@ -168,7 +168,7 @@ fn job_in(state: &State) -> Option<&Job>
     }
 }
 
-/// Returns how many search steps the next operation makes if this many are left: at most 256.
+/// Returns the number of search steps of the next operation if `left` steps are left. It is at most 256.
 #[tactic(auto, using(crate::proofs::StepLemmas::large_count, crate::proofs::StepLemmas::small_count))]
 pub fn next_count(left: u32) -> u16
     requires { 0 < left }
@@ -183,7 +183,8 @@ pub fn next_count(left: u32) -> u16
     }
 }
 
-// Returns how many steps the next operation makes if `left` are left and one operation makes at most `most`.
+// Returns the number of steps of the next operation, if `left` steps are left and one operation makes at most
+// `most`.
 #[tactic(auto, using(crate::proofs::StepLemmas::large_count, crate::proofs::StepLemmas::small_count))]
 fn next_piece(left: u32, most: u32) -> u32
     requires left { 0 < left }

@@ -66,7 +66,7 @@ fn print_table<R: Print>(rt: &R, alloc: Global, table: &Table) -> io::Result<()>
     Ok(())
 }
 
-// Returns the row of the crashes after `calls` finished calls.
+// Returns the row for the crashes after `calls` finished calls.
 fn row_of(alloc: Global, table: &Table, calls: u64) -> io::Result<[u64; 6]> {
     let states = states_of(alloc, table.example)?;
     Ok(tally_of(alloc, table, calls, &states)?.row())
@@ -127,7 +127,7 @@ pub(crate) fn choices_of(alloc: Global, sectors: &[usize], choice: u32) -> io::R
 /// The results of a run that crashed.
 #[derive(Drop)]
 pub(crate) struct RunResult {
-    /// The number of commands answered Ok, DeviceFault, and Broken.
+    /// The numbers of commands that were answered Ok, DeviceFault, and Broken.
     pub acknowledged: u64,
     pub faults: u64,
     pub refused: u64,
@@ -216,8 +216,8 @@ fn is_state(states: &[Vec<u8>], number: u64, bytes: &[u8]) -> bool {
     }
 }
 
-// Runs the example over a new store. The device fails once the commands have finished `calls` calls, and then
-// it crashes.
+// Runs the example over a new store. Once the commands have finished `calls` calls, every call fails, and then
+// the device crashes.
 fn crashed(alloc: Global, table: &Table, calls: u64, choice: u32) -> io::Result<RunResult> {
     let choices = choices_of(alloc, table.written, choice)?;
     crashed_with(alloc, table, calls, &choices)
@@ -237,8 +237,8 @@ fn crashed_with(
 fn fused(alloc: Global, calls: u64) -> io::Result<Session<MemDevice>> {
     let mut device = fresh(alloc)?;
     if calls == 0 {
-        // With no call left the reads of opening would fail as well. Opening is three calls: a sync and two
-        // reads.
+        // If no call were left after the sync of opening, the reads of opening would fail, too. Opening is three
+        // calls: a sync and two reads.
         device.fail_once(3);
     } else {
         device.fuse(calls.saturating_add(1));
@@ -250,8 +250,8 @@ fn fused(alloc: Global, calls: u64) -> io::Result<Session<MemDevice>> {
 #[derive(Default, Clone, Copy)]
 struct Tally {
     acknowledged: u64,
-    /// The stores that opened with the state of the acknowledged commands, with that of one more command, and
-    /// with another state.
+    /// The numbers of stores that opened with the state of the acknowledged commands, with that of one more
+    /// command, and with another state.
     same: u64,
     one_more: u64,
     other: u64,

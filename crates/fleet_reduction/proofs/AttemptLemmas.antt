@@ -55,7 +55,7 @@ use Rattle.plan_audit.specs.Locality.{IsPassing}
 use Rattle.plan_audit.specs.Passes.{passes}
 use Rattle.plan_audit.proofs.FleetLemmas.{used-most}
 use Rattle.plan_audit.proofs.LocalLemmas.{passing_is_local}
-use Rattle.move_ops.proofs.Times.{none_some, some_same}
+use Rattle.move_ops.proofs.OccurrenceLemmas.{none_some, some_same}
 use Rattle.seeded_search.proofs.SearchLemmas.{same_cost}
 use Rattle.anneal_search.specs.AttemptLaws.{AttemptsAreBounded, AttemptsKeepPassing}
 use Rattle.anneal_search.specs.AttemptState.{AttemptState}

@@ -64,7 +64,7 @@ customer_shown kind words Depot is found = found
 customer_shown kind words Customer is found = found
 customer_shown kind words due is found = absurd is
 
--- what the law says of a line after these lines
+-- what the law says about a line after these lines
 abbrev IsShown : List ℕ → List Row → Row → ReadFaultKind → Type 0
 IsShown text before row kind =
     let due = due_after Name before in

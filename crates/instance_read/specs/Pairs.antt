@@ -11,8 +11,8 @@ use Rattle.instance_read.specs.declared.tasks.Task.{Task}
 use Rattle.instance_read.specs.Fields.{value_at}
 use Rattle.instance_read.specs.Rows.{Row}
 
--- the task of a line, from the numbers at its places: its number, coordinates, demand, time window and service,
--- and the tasks that its last two fields name
+-- the task with this line number and these fields: its number, coordinates, demand, time window and service,
+-- and the numbers of its pickup and of its delivery
 abbrev pub task_from : ℕ → (ℕ → ℤ) → Task
 task_from line value = record {
   line = line;

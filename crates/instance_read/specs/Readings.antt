@@ -36,13 +36,13 @@ abbrev pub IsReadResult : Format → List ℕ → Result Instance ReadFault → 
 IsReadResult format text (Ok p) = SpellsInstance format text p
 IsReadResult format text (Err fault) = IsFirstFault (InstanceFault format text) fault
 
--- a function that says what each text spells
+-- a function that returns the problem or the first fault of each text
 abbrev pub Reading : Type 0
 Reading = Format → List ℕ → Result Instance ReadFault
 
 abbrev pub IsReading : Reading → Type 0
 IsReading reading = (format : Format) (text : List ℕ) → IsReadResult format text (reading format text)
 
--- the result found, unless memory ran out
+-- the result is this one, or memory ran out
 abbrev pub IsUnlessOutOfMemory : Result Instance ReadFault → Result Instance ReadFault → Type 0
 IsUnlessOutOfMemory result found = (result ≡ found) ⊎ (result ≡ Err out_of_memory)

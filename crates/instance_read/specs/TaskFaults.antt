@@ -17,11 +17,11 @@ IsFirstKind fault kind = (fault kind ≡ true) × ((k : ReadFaultKind) → fault
 abbrev pub HasNoKind : (ReadFaultKind → Bool) → Type 0
 HasNoKind fault = (k : ReadFaultKind) → fault k ≡ false
 
--- if nothing is wrong, a value was read for which this is true; otherwise the first fault is reported
+-- if there is no fault, the result is a value for which this is true; otherwise it is the first fault
 abbrev pub ReadsValue : {X : Type 0} → (ReadFaultKind → Bool) → (X → Type 0) → Result X ReadFaultKind → Type 0
 ReadsValue fault IsSo result = MatchResult result (λ x. HasNoKind fault × IsSo x) (IsFirstKind fault)
 
--- nothing is wrong, or the first fault is reported
+-- if there is a fault, the result is the first one
 abbrev pub Passes : {X : Type 0} → (ReadFaultKind → Bool) → Result X ReadFaultKind → Type 0
 Passes fault result = MatchResult result (λ _. HasNoKind fault) (IsFirstKind fault)
 

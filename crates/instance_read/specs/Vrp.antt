@@ -101,7 +101,7 @@ abbrev pub refused_fault : ReadFaultKind → Bool
 refused_fault Unsupported = true
 refused_fault _ = false
 
--- the faults of a line of numbers that is in no section: it has too many words
+-- the fault of a line of numbers outside the sections: its number of words is wrong, as it should have none
 abbrev pub stray_fault : ReadFaultKind → Bool
 stray_fault FieldCount = true
 stray_fault _ = false
@@ -193,7 +193,7 @@ abbrev pub lacks_key : List Placed → Bool
 lacks_key ps =
     not (any_key Dimension ps && any_key Capacity ps && any_key WeightType ps && any_key Coordinates ps && any_key Demands ps && any_key Depots ps)
 
--- the line where a text ends: that of EOF, or the one after the last
+-- the line at which a text ends: that of EOF, or the one after the last
 abbrev pub end_line : List ℕ → ℕ
 end_line text = option_map_or (λ (row : Row). row.line) (first_key End (placed_of text)) (length (lines_of text) + 1)
 

@@ -4,7 +4,7 @@ ghost use Rattle.instance_read.specs.Formats.{format_named, format_of, format_wo
 
 use plan_types::Kind;
 
-/// The way in which the lines of an instance text say a problem.
+/// The layout of an instance text, which decides what the words of its lines mean.
 #[derive(Clone, Copy, Debug, PartialEq, Eq)]
 pub enum Layout {
     /// Pickup and delivery with time windows (Li and Lim).

@@ -1,7 +1,7 @@
 //! The problem that a `.vrp` text spells, from the data of its lines.
 //!
-//! A text without a fault has one line for each node. The definitions look for the first line of a section with
-//! that node.
+//! In a text without a fault, each section has exactly one line for each node. The definitions take the first
+//! line with the node, which is that one.
 ghost use Rattle.std.specs.Prelude.{◌≡◌, ◌<◌, ◌≤◌, ◌+◌, ◌-◌, IfOk, IfErr, OnOk, [], true, is_some, pos};
 ghost use Rattle.plan_types.specs.Instance.{IsInstance, new_instance};
 ghost use Rattle.plan_types.specs.Limits.{IsDemand};

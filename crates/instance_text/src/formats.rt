@@ -100,7 +100,7 @@ fn is_single_at(problem: &Problem, index: usize) -> bool
     }
 }
 
-// Returns whether the request at each index is the customer whose number is one greater.
+// Returns whether the requests are customers with the numbers 1, 2, 3 and so on.
 fn are_customers(problem: &Problem) -> bool
     ensures { result ≡ are_customers 1 problem.now.requests }
 {

@@ -1,5 +1,5 @@
--- A crash within the opening leaves an image that was possible before. A crash after it leaves a prefix of the
--- commands, with all that were acknowledged by then.
+-- Recovery after a crash of a run. A crash within the opening leaves an image that was possible before. A crash
+-- after it leaves a prefix of the commands, with all that were acknowledged by then.
 use Rattle.std.proofs.Common.{◌≡◌, ◌∙◌, ℕ, ◌+◌, ◌≤◌, ◌⊎◌, inl, inr, Bool, true, false, ◌&&◌, cond, List, [], ◌∷◌, ◌++◌, refl, sym, ap, subst, arith, append-nil}
 use Rattle.std.specs.Prelude.{Result, Ok, Err, Option, Some, is_ok, nat_le, if◌then◌else◌}
 use Rattle.std.proofs.lemmas.Bool.{lt-leb}
@@ -81,7 +81,7 @@ module _ {D : Type 0} (on : sectors.Ghosts D) where
   none_yet [] (reply ∷ replies) old new run m le = elim run [ ]
   none_yet (command ∷ commands) [] old new run m le = elim run [ ]
 
-  -- If nothing is acknowledged, an image that recovers to the first state recovers to a prefix of the commands:
+  -- If nothing is acknowledged, an image that recovers to the first state recovers to a prefix of the commands,
   -- the empty one.
   begun_stands : (state : State) (commands : List Command) (acknowledged : ℕ) (image : List ℕ) → acknowledged ≡ 0 → RecoversTo Two image state → RecoversToPrefix state commands acknowledged image
   begun_stands state commands acknowledged image none stands = record {
@@ -93,8 +93,8 @@ module _ {D : Type 0} (on : sectors.Ghosts D) where
     stands = stands;
   }
 
-  -- The session since its device was passed to the opening. A crash at each moment since then leaves what the
-  -- run guarantees.
+  -- The moments of a run since its device was passed to the opening: a crash at any of them leaves a prefix of
+  -- the commands, as for a run that begins after the opening.
   pub from_before : (device : D) (session new : SessionValue D) (replayed : ℕ) (commands : List Command) (replies : List Reply)
       → IsOpened on device session replayed → IsRunOn on session commands replies new
       → (on.honest new.device → Throughout on.clock on.possible_since session.device new.device (RunLeaves session.state commands replies))
@@ -131,20 +131,20 @@ served_run_headline on again reading reads law run device m image other left out
     law reading is.session is.new run.input is.runs.opened is.runs.answered is.runs.served m image other left outcome ((is.runs.ends.serves run.input is.is_input).serves reading reads)
     is.opened.whole honest is.runs.ends.moments stop given settled opens
 
--- The next opening returns the state that such a crash leaves.
+-- If a run crashed, the state that the next opening returns is one that the law about crashed runs describes.
 pub runs_are_linked : {D E : Type 0} (on : sectors.Ghosts D) (again : sectors.Ghosts E) (reading : Reading) (reads : IsReading reading)
     → OpenedRunRecovers on again reading reads → RunsAreLinked on again reading reads
 runs_are_linked on again reading reads law run device m image next session replayed is honest stop given opened settled =
     let part = law run device m image next session.device (Ok session.state) is honest stop given settled opened.opens in
     (part.0, (part.1, refl))
 
--- For an input of which only the results of its reads are known, there is a text that begins with them.
+-- For any results of reads, there is an input that begins with the bytes that they returned.
 pub input_read : EveryReadingHasAnInput
 input_read given =
     let text = text_given given.after in
     (rest_after given.before text, inr (text, record { rest = []; whole = sym (append-nil text); end = λ ended. refl }, refl))
 
--- The conclusion of the main law for crashes since the moment `since`.
+-- The conclusion of the main law, for each crash at a moment from number `since` on.
 abbrev GivesFirstPartSince : {D E : Type 0} (on : sectors.Ghosts D) (again : sectors.Ghosts E) (reading : Reading) (reads : IsReading reading) → ℕ
     → (run : Run) (device : D) → RunsOver on run device → Type 0
 GivesFirstPartSince {D} {E} on again reading reads since run device is = (m : ℕ) (image : List ℕ) (other left : E) (outcome : Result State StoreFault)

@@ -23,7 +23,8 @@ use Rattle.recover.specs.declared.replies.Reply.{Reply}
 use Rattle.sector_disk.specs.declared.sectors.Sectors as sectors
 use Rattle.state_codec.specs.declared.version.Version.TheVariants.{Two}
 
--- If a part of the only text was written by then, its calls had finished.
+-- If a part of the only text was written when at most m calls had finished, the number recorded with the text is
+-- at most m.
 one_put : (calls m : ℕ) (text : List ℕ) (first others : List Event) → first ++ others ≡ Put calls text ∷ [] → AllByRecursion (λ event. calls_at event ≤ m) first → put_by first ≢ []
     → calls ≤ m
 one_put calls m text [] others is early some = absurd (some refl)
@@ -46,7 +47,8 @@ one_done state command commands acknowledged image all one some =
     let same : take some.count commands ≡ command ∷ [] = ap (λ (k : ℕ). take k commands) count ∙ ap (take 1) all in
     subst (RecoversTo Two image) (ap (after state) same) some.stands
 
--- If a reply reports success, its command was acknowledged by then.
+-- If a command was answered with success when at most m calls had finished, an image after m calls recovers to
+-- the state after the command.
 acknowledged : (state : State) (command : Command) (reply : Reply) (done : ⊤) (m : ℕ) (image : List ℕ) → reply.answer ≡ Ok done → reply.calls ≤ m
     → RunLeaves state (command ∷ []) (reply ∷ []) m image → RecoversTo Two image (effect state command)
 acknowledged state command reply done m image answered early leaves =

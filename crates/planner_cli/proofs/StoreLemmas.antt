@@ -1,4 +1,4 @@
--- The result of opening a store, from the knowledge about its device.
+-- The result of opening a store, from what is known about its device.
 use Rattle.std.proofs.Common.{◌≡◌, inl, inr, Bool, List, ℕ, Option, Result, Ok, Err, subst}
 use Rattle.std.specs.Prelude.{IfErr}
 use Rattle.checkpoint.specs.declared.faults.FormatFault.{FormatFault}
@@ -26,7 +26,8 @@ module _ {D : Type 0} (on : sectors.Ghosts D) where
   opening_of IsReady IsBare IsNone device ready (Err (File refusal)) is = absurd is
   opening_of IsReady IsBare IsNone device ready (Err (FormatFailed fault left)) is = absurd is
 
-  -- If opening failed after the device was there, the number of steps to repeat may have been printed before.
+  -- Opening a device fails only after its file was opened, so the number of steps to replay may have been
+  -- printed.
   pub foreseen_of : (device : D) (opening : Result (Opened D) (OpenFailure D)) (before after : Option (List ℕ)) → IsOpening on device opening
       → IfErr opening (λ unopened. MayAnnounceReplay unopened before after)
   foreseen_of device (Ok opened) before after is = tt

@@ -50,12 +50,12 @@ not_unchecked answer doubts fault is reported = absurd cc
 same_cause : (answer : Result IntegrityWarnings StoreFault) (fault cause : StoreFault) → answer ≡ Err fault → answer ≡ Err cause → fault ≡ cause
 same_cause answer fault cause is reported = cc
 
--- If printing succeeded, the guarantee for a successful print holds.
+-- A successful print met its guarantee.
 pub at_ok : {E P : Type 0} (reported : Result ⊤ E) → reported ≡ Ok tt → OnOk reported P → P
 at_ok {P = P} reported is holds = subst (λ (r : Result ⊤ _). OnOk r P) is holds
 
 module _ {D : Type 0} (on : sectors.Ghosts D) (old read : D) where
-  -- The integrity check has only read the device.
+  -- After a successful integrity check, the device was only read.
   pub only_read : (doubts : IntegrityWarnings) → ReadsOnly on (faults_after_reading (checked doubts)) old read
       → (on.len old < min_sectors → (read ≡ old) × IsErrOf (checked doubts) NotFormatted) → IsOnlyRead on (found 0) old read
   only_read doubts reads small = record {

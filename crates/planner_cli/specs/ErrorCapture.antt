@@ -5,7 +5,7 @@ use Rattle.std.specs.declared.io.Error.{Error}
 use Rattle.std.specs.declared.io.ErrorKind.{ErrorKind}
 use Rattle.std.specs.declared.io.ErrorKind.TheVariants.{Interrupted}
 
--- A signal interrupted the call.
+-- Whether a signal interrupted the call.
 abbrev pub is_interrupted : ErrorKind → Bool
 is_interrupted Interrupted = true
 is_interrupted _ = false

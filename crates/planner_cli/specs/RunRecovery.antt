@@ -54,7 +54,7 @@ module _ {D : Type 0} (on : sectors.Ghosts D) where
     pub new : SessionValue D
     pub runs : ServesSession on session replayed run.is_strict given run.before run.after run.reader_failed run.writer_failed new
 
-  -- The acts by which the input was served.
+  -- The acts by which the input was served: operations, and requests of memory for texts.
   abbrev pub acts_in : (reading : Reading) → IsReading reading → (run : Run) (device : D) → RunsOver run device → List Act
   acts_in reading reads run device is =
       acts_of on is.runs.served reading is.session run.input is.runs.opened is.runs.answered is.new

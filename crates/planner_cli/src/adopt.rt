@@ -110,7 +110,7 @@ fn adopt_text<R: Eprint, D: Sectors, W: Write>(
     ensures adopts { AdoptsText D.Sectors session.old text.now
         (held W.contents output.old) (held W.contents output.new) session.new result }
 {
-    // A solution that passes the audit also passes with the pins, so the store accepts it as a plan.
+    // A solution that passes the audit also passes with the pins, so its plan is not refused as `NotAPlan`.
     assigned_plans_pass();
     match plan_of_text(alloc, session.state(), text) {
         Ok(plan) => {
@@ -124,8 +124,7 @@ fn adopt_text<R: Eprint, D: Sectors, W: Write>(
     }
 }
 
-// Returns the plan that the solution describes for the state's problem and pins, or the reason why there is
-// none.
+// Returns the plan that the solution describes for the state's problem and pins, or the reason why there is none.
 fn plan_of_text(alloc: Global, state: &State, text: &[u8]) -> Result<Plan, AdoptRefusal>
     ensures { FindsPlan state.now text.now result }
 {
@@ -156,7 +155,7 @@ fn print_adopt_refusal<W: Write>(output: &mut W, unadopted: AdoptRefusal) -> io:
     }
 }
 
-// Prints the reason in the words of the command `adopt` of `run`.
+// Prints the line that the command `adopt` of `run` also prints for this reason.
 fn print_assignment_fault<W: Write>(output: &mut W, unseated: AssignmentFault) -> io::Result<u8>
     ensures { PrintsText (line (unseated_text unseated)) (assignment_fault_status unseated)
         (W.contents output.old) (W.contents output.new) result }

@@ -34,7 +34,7 @@ impl<T> ErrorCapture<T> {
     }
 }
 
-/// Forwards each call.
+/// Forwards each call, and keeps the error of a failed one.
 impl<R: Read> Read for ErrorCapture<R> {
     ghost remaining = { λ r. R.remaining r.inner };
 
@@ -50,7 +50,7 @@ impl<R: Read> Read for ErrorCapture<R> {
     }
 }
 
-/// Forwards each call.
+/// Forwards each call, and keeps the error of a failed one.
 impl<W: Write> Write for ErrorCapture<W> {
     ghost contents = { λ w. W.contents w.inner };
 

@@ -1,8 +1,8 @@
 //! Opens a store, on a device or in a file.
 //!
-//! Replaying the search steps of a store can take long, so their number is first printed on standard error. It
-//! is found by reading only. If that read fails, opening fails with the same cause, since otherwise one fault
-//! of the device would be counted twice.
+//! Replaying the search steps of a store can take long, so their number is first printed on standard error. The
+//! number is found by reading only. If that read fails, opening fails with the same cause, since otherwise one
+//! fault of the device would be counted twice.
 ghost use Rattle.std.specs.Prelude.{◌≡◌, ◌≤◌, ◌∷◌, IfErr, IfOk, MatchResult, OnOk};
 ghost use Rattle.file_disk.specs.DeviceFiles.{IsOpenedExistingAt};
 ghost use Rattle.recover.specs.Opening.{IsOpened, IsRefused};

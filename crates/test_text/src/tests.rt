@@ -1,6 +1,5 @@
 //! The test modules, in reading order: `builders` (shared by the examples), `lines`, `instances`, `solomon`,
-//! `solutions`,
-//! `explanations`, `buffers`, `timetables`, `pictures`, `writing`.
+//! `solutions`, `explanations`, `buffers`, `timetables`, `pictures`, `writing`.
 
 mod buffers;
 mod builders;

@@ -12,8 +12,8 @@ use std::test::Fail;
 /// Three customers on a line, with a fleet of two.
 const LINE: TestProblem = TestProblem::Customers(10, 2, &[(1, 0, 1), (2, 0, 1), (3, 0, 1)]);
 
-/// A problem, whether vehicles count, pins, a plan, the greatest number of steps, the plan after them, and how many
-/// steps were made.
+/// A problem, its kind, pins, a plan, the greatest number of steps, the plan after them, and the number of steps
+/// that were made. Vehicles count only in problems of kind `LiLim`.
 type Row = (
     TestProblem,
     Kind,
@@ -45,8 +45,8 @@ const REDUCED: [Row; 5] = [
         &[0, 2, 3, 1, 0],
         1,
     ),
-    // The vehicle with a pin is kept, though its route is shorter than the other one. Then nothing is movable in
-    // its route.
+    // The vehicle with a pin is kept, though its route is shorter than the other one. Then no request of its
+    // route is movable.
     (
         LINE,
         Kind::LiLim,
@@ -56,7 +56,7 @@ const REDUCED: [Row; 5] = [
         &[1, 3, 0, 2, 0],
         6,
     ),
-    // An empty plan has nothing movable, so the attempt with all vehicles fails.
+    // An empty plan has no movable request, so the attempt with all vehicles fails.
     (LINE, Kind::LiLim, &[0, 0], &[0, 0], 7, &[0, 0], 7),
     // Three vehicles cannot serve four customers who each fill a vehicle.
     (
@@ -72,7 +72,7 @@ const REDUCED: [Row; 5] = [
 
 /// Cases without an attempt.
 const NOT_REDUCED: [Row; 5] = [
-    // Both vehicles have pins.
+    // Each used vehicle has a pin.
     (
         LINE,
         Kind::LiLim,
@@ -101,7 +101,7 @@ const NOT_REDUCED: [Row; 5] = [
         &[0, 0],
         0,
     ),
-    // Vehicles do not count, or there are no steps.
+    // Vehicles do not count, or no steps are to be made.
     (
         LINE,
         Kind::Vrp,

@@ -1,4 +1,4 @@
--- The vehicle has departed to the stops counted so far, and not to the next one.
+-- The loop ends at the first place to which the vehicle has not departed, or at the end of the route.
 use Rattle.std.proofs.Common.{rules, ◌≡◌, ◌∙◌, ◌≤◌, ℕ, true, false, [], length, sym, ap, arith}
 use Rattle.route_sched.specs.VisitList.{visit_after, visits_from}
 use Rattle.plan_audit.proofs.VisitLemmas.{visit_is, visits_left}

@@ -1,4 +1,4 @@
--- All places so far belong to the prefix.
+-- The vehicle has departed to each place so far, and the iterator has the visits of the remaining places.
 use Rattle.std.proofs.Common.{◌≡◌, ◌+◌, length}
 use Rattle.route_sched.specs.VisitList.{visit_after, visits_from}
 use Rattle.command_text.specs.Freezing.{has_departed, departed_count}
