@@ -19,7 +19,9 @@ ghost use Rattle.recover.specs.Replaying.{IsReplayFault, IsReplay, ReportsState}
 
 use crate::replaying::{replay, steps_of_commands, steps_of_state};
 use crate::sessions::Session;
-use checkpoint::{Loaded, MIN_SECTORS, Place, StoreFault, images_hold_at_most_one_state, load};
+use checkpoint::{
+    MIN_SECTORS, Place, StoreContent, StoreFault, images_hold_at_most_one_state, load,
+};
 use command_core::State;
 use sector_disk::{DeviceFault, Sectors};
 use state_codec::version::Version;
@@ -41,7 +43,7 @@ fn sync_and_load<D: Sectors>(
     alloc: Global,
     device: &mut D,
     version: Version,
-) -> Result<Loaded, StoreFault>
+) -> Result<StoreContent, StoreFault>
     ensures loaded { IsLoaded D.Sectors version result device.old device.new }
     ensures called { Calls D.Sectors (more result 1) (faults_after_reading result)
         device.old device.new }
@@ -57,7 +59,7 @@ fn sync_and_load<D: Sectors>(
 }
 
 // Replays the commands of the records on the loaded state.
-fn replay_records(alloc: Global, loaded: Loaded) -> Result<RecoveredState, StoreFault>
+fn replay_records(alloc: Global, loaded: StoreContent) -> Result<RecoveredState, StoreFault>
     requires { IsState loaded.state }
     ensures ok { IfOk result (IsReplay loaded.state loaded.commands.items loaded.place) }
     ensures refused { IfErr result (IsReplayFault loaded.state loaded.commands.items) }

@@ -19,7 +19,7 @@ returns-in-Ok g c =
     let found = c.in-Ok.found in
     let said = c.in-Ok.ensures in
     record {
-      room = omega (arith, said.recovered.standing.room);
+      room = omega (arith, said.recovered.well_formed.room);
       given = search rules;
       opens = λ honest.
           (let read = subst (λ (s : SessionValue _). g.D.Sectors.honest s.device) c.over.ensures honest in

@@ -9,7 +9,7 @@ use Rattle.checkpoint.specs.Layouts.{sectors_in, half_at}
 use Rattle.checkpoint.specs.Headers.{header_bytes}
 use Rattle.checkpoint.specs.Stores.{IsValid, Stores, snapshot_in, leading_number}
 use Rattle.checkpoint.proofs.Runs.{same_run, sector_written, written_outside}
-use Rattle.checkpoint.proofs.Carried.{half_inside}
+use Rattle.checkpoint.proofs.Preservation.{half_inside}
 use Rattle.checkpoint.proofs.HeaderBytes.{same_sequence}
 
 -- no valid header and no record has a greater sequence

@@ -1,7 +1,7 @@
 -- If both headers are valid, the one with the greater sequence is current. If one is valid, it is current.
 -- Otherwise there is a fault.
-use Rattle.checkpoint.proofs.Heads.{counts_first, counts_second, counts_zeroth, counts_next, none_valid}
-use Rattle.checkpoint.proofs.fronts.current_header.Goals as goal
+use Rattle.checkpoint.proofs.HeaderLemmas.{counts_first, counts_second, counts_zeroth, counts_next, none_valid}
+use Rattle.checkpoint.proofs.prefix.current_header.Goals as goal
 
 pub returns-in-None-second-clause-found : goal.returns-in-None-second-clause-found
 returns-in-None-second-clause-found c image whole = counts_zeroth c.args.layout image c.in-Some.first (c.in-Some.ensures.valid image whole) (c.in-None-second.ensures.valid image whole)

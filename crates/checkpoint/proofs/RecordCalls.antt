@@ -6,7 +6,7 @@ use Rattle.sector_disk.specs.Calls.{IsInCommit}
 use Rattle.checkpoint.specs.Layouts.{version_2}
 use Rattle.checkpoint.specs.Stores.{Stores, HasStored, leading_number}
 use Rattle.checkpoint.specs.DurableWrites.{IsInDurableWrite}
-use Rattle.checkpoint.proofs.Added.{added}
+use Rattle.checkpoint.proofs.RecordWrites.{added}
 
 module _ (bytes : List ℕ) (sequence : ℕ) (state : List ℕ) (journal : List (List ℕ)) (used : ℕ) (possible : List ℕ → Type 0) (seen : List ℕ) (here : possible seen)
     (stored : (image : List ℕ) → possible image → Stores version_2 image sequence state journal) (one : length bytes ≡ 512)

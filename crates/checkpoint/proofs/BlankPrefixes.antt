@@ -4,12 +4,12 @@ use Rattle.std.proofs.lemmas.List.{drop-replicate, take-replicate}
 use Rattle.sector_disk.specs.Image.{sector, written}
 use Rattle.sector_disk.specs.ImageLaws.{length-written, sector-written_inside}
 use Rattle.checkpoint.specs.DurableWrites.{IsZeros}
-use Rattle.checkpoint.specs.WrittenImages.{front_size}
+use Rattle.checkpoint.specs.WrittenImages.{prefix_size}
 use Rattle.checkpoint.specs.declared.layouts.Layout.{Layout}
 use Rattle.checkpoint.specs.declared.headers.Header.{Header}
 use Rattle.checkpoint.specs.Headers.{header_bytes, HasOtherVersion, magic}
 use Rattle.checkpoint.specs.Stores.{IsValid, IsUnformatted, leading_number}
-use Rattle.checkpoint.proofs.Advanced.{Below}
+use Rattle.checkpoint.proofs.HeaderWrites.{Below}
 
 -- the headers and the records are zeros
 pub record IsCleared (image : List ℕ) : Type 0 where
@@ -58,10 +58,10 @@ length_cleared n zeros image is long room =
     let whole : length zeros ≡ 512 * 258 = is.long ∙ long in
     length-written 0 258 zeros image whole (omega (arith, room))
 
--- the front has 132,096 bytes
-pub size_is : 132096 ≡ front_size
-unfolding front_size
+-- the prefix has 132,096 bytes
+pub size_is : 132096 ≡ prefix_size
+unfolding prefix_size
 size_is = refl
 
-pub front_zeros : (zeros : List ℕ) → IsZeros 132096 zeros → zeros ≡ replicate front_size 0
-front_zeros zeros is = is.are ∙ ap (λ (n : ℕ). replicate n 0) size_is
+pub prefix_zeros : (zeros : List ℕ) → IsZeros 132096 zeros → zeros ≡ replicate prefix_size 0
+prefix_zeros zeros is = is.are ∙ ap (λ (n : ℕ). replicate n 0) size_is

@@ -64,9 +64,9 @@ use Rattle.checkpoint.specs.Holds.{Holds, layout_of}
 use Rattle.checkpoint.specs.Reads.{IsOfParity, HasLeadingRecords, HasRecords, IsClearFrom, HasStrayFrom}
 use Rattle.checkpoint.specs.InvalidImages.{HoldsNothing}
 use Rattle.checkpoint.proofs.HeaderBytes.{small_half, read_of, read_back}
-use Rattle.checkpoint.proofs.Heads.{counts_first, counts_second, counts_zeroth, counts_next, none_valid}
+use Rattle.checkpoint.proofs.HeaderLemmas.{counts_first, counts_second, counts_zeroth, counts_next, none_valid}
 use Rattle.checkpoint.proofs.LeadingRecords.{none_led, more_led, led_to, led_full}
-use Rattle.checkpoint.proofs.Loading.{holds_here}
+use Rattle.checkpoint.proofs.LoadLemmas.{holds_here}
 
 -- ---- properties, numbers and bytes
 

@@ -1,10 +1,10 @@
-//! The front of a device: its headers and records.
+//! The prefix of a device: its headers and records.
 ghost use Rattle.std.specs.Prelude.{◌≡◌, ◌≢◌, ◌+◌, ◌*◌, ◌%◌, ◌<◌, ◌≤◌, ◌^◌, ◌↔◌, ℕ, List, length, take, OnOk, OnErr, IfOk, IfErr, IfSome, IsTrue, MatchOption, MatchResult, Some, None};
 ghost use Rattle.sector_disk.specs.Image.{sector};
 ghost use Rattle.checkpoint.specs.Headers.{HasOtherVersion};
-ghost use Rattle.checkpoint.specs.Layouts.{journal_room, front_sectors, min_sectors};
-ghost use Rattle.checkpoint.specs.Stores.{IsValid, IsCurrentHeader, leading_number};
-ghost use Rattle.checkpoint.specs.Reads.{IsImageFront, FitsLayout, IsAllowed, IsOfParity, HasRecords, IsClearFrom, HasStrayFrom};
+ghost use Rattle.checkpoint.specs.Layouts.{journal_room, prefix_sectors, min_sectors};
+ghost use Rattle.checkpoint.specs.Stores.{IsValid, IsCurrentHeader};
+ghost use Rattle.checkpoint.specs.Reads.{IsImagePrefix, FitsLayout, IsAllowed, IsOfParity, HasRecords, IsClearFrom, HasStrayFrom};
 ghost use Rattle.checkpoint.specs.InvalidImages.{HasNoHeader, IsHeaderFault};
 ghost use Rattle.command_types.specs.declared.commands.Command.{Command};
 ghost use Rattle.state_codec.specs.Bytes.{record_bytes};
@@ -12,21 +12,22 @@ ghost use Rattle.state_codec.specs.Limits.{IsRecorded};
 ghost use Rattle.checkpoint.specs.declared.headers.Header.{Header};
 
 use crate::faults::StoreFault;
-use crate::headers::{Header, MAGIC, header_in, leading_number};
+use crate::headers::{Header, MAGIC, header_in};
 use crate::layouts::{LAST_SEQUENCE, Layout, RECORDS, sectors_in};
+use byteorder::{BigEndian, ByteOrder};
 use command_types::Command;
 use sector_disk::SECTOR_SIZE;
 use state_codec::version::Version;
 use state_codec::{decode_record, decode_record_v1};
 use std::alloc::{AllocError, Global};
 
-/// Returns the sector with this index in the front of a device.
-pub(crate) fn sector_at(front: &[u8], i: usize) -> [u8; SECTOR_SIZE]
-    requires { 512 * i + 512 ≤ length front.now }
-    ensures { result ≡ sector i front.now }
+/// Returns the sector with this index in the prefix of a device.
+pub(crate) fn sector_at(prefix: &[u8], i: usize) -> [u8; SECTOR_SIZE]
+    requires { 512 * i + 512 ≤ length prefix.now }
+    ensures { result ≡ sector i prefix.now }
 {
     let mut sector = [0; SECTOR_SIZE];
-    sector.copy_from_slice(&front[i * SECTOR_SIZE..(i + 1) * SECTOR_SIZE]);
+    sector.copy_from_slice(&prefix[i * SECTOR_SIZE..(i + 1) * SECTOR_SIZE]);
     sector
 }
 
@@ -47,16 +48,16 @@ fn is_allowed(layout: Layout, sectors: u64, header: Header, index: u64) -> bool
 pub(crate) fn valid_header(
     layout: Layout,
     sectors: u64,
-    front: &[u8],
+    prefix: &[u8],
     index: usize,
 ) -> Option<Header>
-    requires front { length front.now ≡ 512 * front_sectors }
+    requires prefix { length prefix.now ≡ 512 * prefix_sectors }
     requires index { index < 2 }
     ensures fits { IfSome result (FitsLayout layout sectors) }
-    ensures valid { (image : List ℕ) → IsImageFront sectors front.now image
+    ensures valid { (image : List ℕ) → IsImagePrefix sectors prefix.now image
         → IsOfParity layout image index result }
 {
-    match header_in(layout.version, &sector_at(front, index)) {
+    match header_in(layout.version, &sector_at(prefix, index)) {
         Some(header) => {
             if is_allowed(layout, sectors, header, index as u64) {
                 Some(header)
@@ -76,17 +77,17 @@ fn is_of_other_version(version: u32, sector: &[u8; SECTOR_SIZE]) -> bool
 }
 
 // Returns the fault of a device without a valid header.
-fn missing_header_fault(layout: Layout, front: &[u8]) -> StoreFault
-    requires front { length front.now ≡ 512 * front_sectors }
+fn missing_header_fault(layout: Layout, prefix: &[u8]) -> StoreFault
+    requires prefix { length prefix.now ≡ 512 * prefix_sectors }
     ensures kind { IsHeaderFault result }
     ensures reported { (sectors : ℕ) (image : List ℕ) → min_sectors ≤ sectors
-        → IsImageFront sectors front.now image
+        → IsImagePrefix sectors prefix.now image
         → ((header : Header) → ¬ IsValid layout image header) → HasNoHeader layout image result }
 {
-    if is_of_other_version(layout.version, &sector_at(front, 0)) {
+    if is_of_other_version(layout.version, &sector_at(prefix, 0)) {
         return StoreFault::BadVersion;
     }
-    if is_of_other_version(layout.version, &sector_at(front, 1)) {
+    if is_of_other_version(layout.version, &sector_at(prefix, 1)) {
         return StoreFault::BadVersion;
     }
     StoreFault::NotFormatted
@@ -96,18 +97,18 @@ fn missing_header_fault(layout: Layout, front: &[u8]) -> StoreFault
 pub(crate) fn current_header(
     layout: Layout,
     sectors: u64,
-    front: &[u8],
+    prefix: &[u8],
 ) -> Result<Header, StoreFault>
-    requires front { length front.now ≡ 512 * front_sectors }
+    requires prefix { length prefix.now ≡ 512 * prefix_sectors }
     requires room { min_sectors ≤ sectors }
     ensures kind { IfErr result IsHeaderFault }
     ensures fits { IfOk result (FitsLayout layout sectors) }
-    ensures found { (image : List ℕ) → IsImageFront sectors front.now image
+    ensures found { (image : List ℕ) → IsImagePrefix sectors prefix.now image
         → MatchResult result (λ header. IsCurrentHeader layout image header)
         (λ fault. HasNoHeader layout image fault) }
 {
-    let first = valid_header(layout, sectors, front, 0);
-    let second = valid_header(layout, sectors, front, 1);
+    let first = valid_header(layout, sectors, prefix, 0);
+    let second = valid_header(layout, sectors, prefix, 1);
     match first {
         Some(first) => match second {
             Some(second) => {
@@ -121,7 +122,7 @@ pub(crate) fn current_header(
         },
         None => match second {
             Some(second) => Ok(second),
-            None => Err(missing_header_fault(layout, front)),
+            None => Err(missing_header_fault(layout, prefix)),
         },
     }
 }
@@ -148,17 +149,17 @@ pub(crate) fn command_in(
 pub(crate) fn leading_commands(
     alloc: Global,
     version: Version,
-    front: &[u8],
+    prefix: &[u8],
     sequence: u64,
 ) -> Result<Vec<Command>, AllocError>
-    requires { length front.now ≡ 512 * front_sectors }
-    ensures { IfOk result (λ commands. HasRecords version front.now sequence commands.items) }
+    requires { length prefix.now ≡ 512 * prefix_sectors }
+    ensures { IfOk result (λ commands. HasRecords version prefix.now sequence commands.items) }
 {
     let mut commands = Vec::new(alloc);
     for index in 0..RECORDS {
         match command_in(
             version,
-            &sector_at(front, 2 + index as usize),
+            &sector_at(prefix, 2 + index as usize),
             sequence,
             index,
         ) {
@@ -171,14 +172,14 @@ pub(crate) fn leading_commands(
 
 /// Returns the index of the first record sector, from `used` on, that begins with this sequence or a greater
 /// one.
-pub(crate) fn first_stray_record(front: &[u8], used: usize, sequence: u64) -> Option<usize>
-    requires front { length front.now ≡ 512 * front_sectors }
+pub(crate) fn first_stray_record(prefix: &[u8], used: usize, sequence: u64) -> Option<usize>
+    requires prefix { length prefix.now ≡ 512 * prefix_sectors }
     requires used { used ≤ journal_room }
-    ensures { MatchOption result (IsClearFrom used front.now sequence)
-        (λ i. HasStrayFrom used front.now sequence) }
+    ensures { MatchOption result (IsClearFrom used prefix.now sequence)
+        (λ i. HasStrayFrom used prefix.now sequence) }
 {
     for i in used..RECORDS as usize {
-        if sequence <= leading_number(&sector_at(front, 2 + i)) {
+        if sequence <= BigEndian::read_u64(&sector_at(prefix, 2 + i)) {
             return Some(i);
         }
     }

@@ -1,4 +1,4 @@
--- The headers of an image, read from its front.
+-- The headers of an image, read from its prefix.
 use Rattle.std.proofs.Common.{◌≡◌, ◌⊎◌, ⊎_elim, inl, inr, ℕ, ◌%◌, ◌^◌, ◌<◌, ◌≤◌, List, Some, None, sym, ◌∙◌, ap, subst, arith}
 use Rattle.sector_disk.specs.Image.{sector}
 use Rattle.checkpoint.specs.declared.layouts.Layout.{Layout}
@@ -6,20 +6,20 @@ use Rattle.checkpoint.specs.declared.headers.Header.{Header}
 use Rattle.checkpoint.specs.declared.faults.StoreFault.TheVariants as store
 use Rattle.checkpoint.specs.Headers.{header_bytes, HasOtherVersion}
 use Rattle.checkpoint.specs.Stores.{IsValid, IsCurrentHeader}
-use Rattle.checkpoint.specs.Reads.{IsImageFront, IsAllowed, IsOfParity}
+use Rattle.checkpoint.specs.Reads.{IsImagePrefix, IsAllowed, IsOfParity}
 use Rattle.checkpoint.specs.InvalidImages.{HasNoHeader}
-use Rattle.checkpoint.proofs.Runs.{sector_front}
-use Rattle.checkpoint.proofs.Carried.{parity}
+use Rattle.checkpoint.proofs.Runs.{sector_of_take}
+use Rattle.checkpoint.proofs.Preservation.{parity}
 use Rattle.checkpoint.proofs.HeaderBytes.{same_sequence}
 
--- a sector of the front is that of the image
-pub in_front : (sectors : ℕ) (front image : List ℕ) → IsImageFront sectors front image → (i : ℕ) → i < 258 → sector i front ≡ sector i image
-in_front sectors front image whole i below =
-    ap (sector i) (sym whole.is) ∙ sector_front 258 i image below (omega (arith, whole.size, whole.room))
+-- a sector of the prefix is that of the image
+pub sector_in_prefix : (sectors : ℕ) (prefix image : List ℕ) → IsImagePrefix sectors prefix image → (i : ℕ) → i < 258 → sector i prefix ≡ sector i image
+sector_in_prefix sectors prefix image whole i below =
+    ap (sector i) (sym whole.is) ∙ sector_of_take 258 i image below (omega (arith, whole.size, whole.room))
 
-module _ (layout : Layout) (sectors : ℕ) (front image : List ℕ) (whole : IsImageFront sectors front image) (index : ℕ) (low : index < 2) (bytes : List ℕ) (is : bytes ≡ sector index front) where
+module _ (layout : Layout) (sectors : ℕ) (prefix image : List ℕ) (whole : IsImagePrefix sectors prefix image) (index : ℕ) (low : index < 2) (bytes : List ℕ) (is : bytes ≡ sector index prefix) where
   at : bytes ≡ sector index image
-  at = is ∙ in_front sectors front image whole index (omega (arith, low))
+  at = is ∙ sector_in_prefix sectors prefix image whole index (omega (arith, low))
 
   pub valid_there : (header : Header) → bytes ≡ header_bytes layout.version header → IsAllowed layout sectors header index → (header.sequence % 2 ≡ index) × IsValid layout image header
   valid_there header read allowed = (
@@ -102,8 +102,8 @@ module _ (layout : Layout) (image : List ℕ) where
   none_valid zeroth next header valid = ⊎_elim (λ even. zeroth header even valid) (λ odd. next header odd valid) (parity header.sequence)
 
 -- the two cases of the fault: another version, or no header at all
-module _ (layout : Layout) (sectors : ℕ) (front image : List ℕ) (whole : IsImageFront sectors front image) (room : 802 ≤ sectors) (none : (header : Header) → ¬ IsValid layout image header) where
-  pub foreign : (index : ℕ) → (index ≡ 0) ⊎ (index ≡ 1) → HasOtherVersion layout.version (sector index front) → HasNoHeader layout image store.BadVersion
+module _ (layout : Layout) (sectors : ℕ) (prefix image : List ℕ) (whole : IsImagePrefix sectors prefix image) (room : 802 ≤ sectors) (none : (header : Header) → ¬ IsValid layout image header) where
+  pub foreign : (index : ℕ) → (index ≡ 0) ⊎ (index ≡ 1) → HasOtherVersion layout.version (sector index prefix) → HasNoHeader layout image store.BadVersion
   foreign index which other = record {
     none = none;
     other = record {
@@ -114,14 +114,14 @@ module _ (layout : Layout) (sectors : ℕ) (front image : List ℕ) (whole : IsI
     };
   }
     where
-      there : (index : ℕ) → (index ≡ 0) ⊎ (index ≡ 1) → HasOtherVersion layout.version (sector index front) → HasOtherVersion layout.version (sector index image)
+      there : (index : ℕ) → (index ≡ 0) ⊎ (index ≡ 1) → HasOtherVersion layout.version (sector index prefix) → HasOtherVersion layout.version (sector index image)
       there index which other = subst (HasOtherVersion layout.version)
-          (in_front sectors front image whole index (⊎_elim (λ (is : index ≡ 0). omega (arith, is)) (λ (is : index ≡ 1). omega (arith, is)) which)) other
+          (sector_in_prefix sectors prefix image whole index (⊎_elim (λ (is : index ≡ 0). omega (arith, is)) (λ (is : index ≡ 1). omega (arith, is)) which)) other
 
-  pub unformatted : ¬ HasOtherVersion layout.version (sector 0 front) → ¬ HasOtherVersion layout.version (sector 1 front) → HasNoHeader layout image store.NotFormatted
+  pub unformatted : ¬ HasOtherVersion layout.version (sector 0 prefix) → ¬ HasOtherVersion layout.version (sector 1 prefix) → HasNoHeader layout image store.NotFormatted
   unformatted zeroth next = record {
     none = none;
     no_other = λ is. ⊎_elim
-        (λ first. zeroth (subst (HasOtherVersion layout.version) (sym (in_front sectors front image whole 0 (omega arith))) first))
-        (λ second. next (subst (HasOtherVersion layout.version) (sym (in_front sectors front image whole 1 (omega arith))) second)) is.other;
+        (λ first. zeroth (subst (HasOtherVersion layout.version) (sym (sector_in_prefix sectors prefix image whole 0 (omega arith))) first))
+        (λ second. next (subst (HasOtherVersion layout.version) (sym (sector_in_prefix sectors prefix image whole 1 (omega arith))) second)) is.other;
   }

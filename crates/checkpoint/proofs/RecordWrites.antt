@@ -7,7 +7,7 @@ use Rattle.checkpoint.specs.declared.layouts.Layout.{Layout}
 use Rattle.checkpoint.specs.Layouts.{half_at}
 use Rattle.checkpoint.specs.Stores.{Stores, record_sectors, leading_number}
 use Rattle.checkpoint.proofs.Runs.{same_run, same_records, record_sectors-more, sector_written, written_outside}
-use Rattle.checkpoint.proofs.Carried.{half_inside, same_valid}
+use Rattle.checkpoint.proofs.Preservation.{half_inside, same_valid}
 
 module _ (layout : Layout) (image : List ℕ) (sequence : ℕ) (state : List ℕ) (journal : List (List ℕ)) (bytes : List ℕ)
     (stored : Stores layout image sequence state journal) (one : length bytes ≡ 512) (mark : leading_number bytes ≡ sequence) (free : length journal < 256) where

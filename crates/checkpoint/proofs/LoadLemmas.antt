@@ -45,7 +45,7 @@ use Rattle.checkpoint.specs.Numbers.{HaveValidNumbers}
 use Rattle.checkpoint.specs.Layouts.{half_at}
 use Rattle.checkpoint.specs.Stores.{IsCurrentHeader, snapshot_in, record_sectors, leading_number}
 use Rattle.checkpoint.specs.Holds.{Holds, layout_of, journal}
-use Rattle.checkpoint.specs.Reads.{IsImageFront, HasRecords, IsClearFrom, HasStrayFrom}
+use Rattle.checkpoint.specs.Reads.{IsImagePrefix, HasRecords, IsClearFrom, HasStrayFrom}
 use Rattle.checkpoint.specs.InvalidImages.{HasBadJournal, HasMismatchedJournal, HoldsNothing, UnlessReadFailed, IsHeaderFault, IsJournalFault, IsContentFault, store_fault_of}
 use Rattle.checkpoint.specs.Refusals.{faults_of_store}
 use Rattle.checkpoint.specs.declared.faults.StoreFault.{StoreFault}
@@ -54,9 +54,9 @@ use Rattle.state_codec.specs.declared.fault.CodecFault.{CodecFault}
 use Rattle.state_codec.specs.declared.fault.CodecFault.TheVariants as codec
 use Rattle.state_codec.specs.DecodeResults.{Decodes}
 use Rattle.checkpoint.proofs.Runs.{same_records}
-use Rattle.checkpoint.proofs.Carried.{half_inside}
+use Rattle.checkpoint.proofs.Preservation.{half_inside}
 use Rattle.checkpoint.proofs.Journals.{record_begins, length-journal}
-use Rattle.checkpoint.proofs.Heads.{in_front}
+use Rattle.checkpoint.proofs.HeaderLemmas.{sector_in_prefix}
 
 -- a record sector is the record of its command
 pub record_there : (version : Version) (image : List ℕ) (sequence index : ℕ) (commands : List Command) → All (IsRecorded version) commands
@@ -107,34 +107,34 @@ module _ (version : Version) (image : List ℕ) (header : Header) (counts : IsCu
         numbers = numbers;
       }
 
-module _ (version : Version) (sectors : ℕ) (front image : List ℕ) (whole : IsImageFront sectors front image) (header : Header) (counts : IsCurrentHeader (layout_of version) image header) where
-  same : (i : ℕ) → i < 256 → sector (2 + i) image ≡ sector (2 + i) front
-  same i below = sym (in_front sectors front image whole (2 + i) (omega (arith, below)))
+module _ (version : Version) (sectors : ℕ) (prefix image : List ℕ) (whole : IsImagePrefix sectors prefix image) (header : Header) (counts : IsCurrentHeader (layout_of version) image header) where
+  same : (i : ℕ) → i < 256 → sector (2 + i) image ≡ sector (2 + i) prefix
+  same i below = sym (sector_in_prefix sectors prefix image whole (2 + i) (omega (arith, below)))
 
-  records_there : (commands : List Command) → HasRecords version front header.sequence commands → HasRecords version image header.sequence commands
+  records_there : (commands : List Command) → HasRecords version prefix header.sequence commands → HasRecords version image header.sequence commands
   records_there commands has = record {
-    led = record { records = same_records 0 (length commands) front image (λ j from to. same j (omega (arith, to, has.count))) ∙ has.led.records; recorded = has.led.recorded };
+    led = record { records = same_records 0 (length commands) prefix image (λ j from to. same j (omega (arith, to, has.count))) ∙ has.led.records; recorded = has.led.recorded };
     count = has.count;
     ends = λ inside command recorded is. has.ends inside command recorded (sym (same (length commands) inside) ∙ is);
   }
 
-  stray_there : (state : State) (commands : List Command) → HasRecords version front header.sequence commands
-      → HasStrayFrom (length commands) front header.sequence → HasBadJournal version image header.sequence state
+  stray_there : (state : State) (commands : List Command) → HasRecords version prefix header.sequence commands
+      → HasStrayFrom (length commands) prefix header.sequence → HasBadJournal version image header.sequence state
   stray_there state commands has stray = record {
     commands = commands;
     records = records_there commands has;
     why = inl (stray.0, stray.1, stray.2, subst (λ (s : List ℕ). header.sequence ≤ leading_number s) (sym (same stray.0 stray.2)) stray.3);
   }
 
-  past_there : (state : State) (commands : List Command) → HasRecords version front header.sequence commands → ¬ HaveValidNumbers version state commands
+  past_there : (state : State) (commands : List Command) → HasRecords version prefix header.sequence commands → ¬ HaveValidNumbers version state commands
       → HasBadJournal version image header.sequence state
   past_there state commands has past = record { commands = commands; records = records_there commands has; why = inr past }
 
-  bad_here : (state : State) → HasBadJournal version front header.sequence state → HasBadJournal version image header.sequence state
+  bad_here : (state : State) → HasBadJournal version prefix header.sequence state → HasBadJournal version image header.sequence state
   bad_here state bad = ⊎_elim (stray_there state bad.commands bad.records) (past_there state bad.commands bad.records) bad.why
 
-  -- a fault of the journal that is found in the front is a fault of the image
-  pub bad_there : (state : State) (fault : StoreFault) → UnlessReadFailed (λ fault. HasBadJournal version front header.sequence state) fault
+  -- a fault of the journal that is found in the prefix is a fault of the image
+  pub bad_there : (state : State) (fault : StoreFault) → UnlessReadFailed (λ fault. HasBadJournal version prefix header.sequence state) fault
       → UnlessReadFailed (λ fault. HasBadJournal version image header.sequence state) fault
   bad_there state store.DeviceFault bad = tt
   bad_there state store.OutOfMemory bad = tt
@@ -145,7 +145,7 @@ module _ (version : Version) (sectors : ℕ) (front image : List ℕ) (whole : I
 
   pub holds_there : (state : State) (commands : List Command) (used : ℕ)
       → snapshot_in (layout_of version) image header.sequence header.length ≡ state_bytes version state → IsStateOf version state → IsState state
-      → HasRecords version front header.sequence commands → IsClearFrom (length commands) front header.sequence → HaveValidNumbers version state commands → used ≡ length commands
+      → HasRecords version prefix header.sequence commands → IsClearFrom (length commands) prefix header.sequence → HaveValidNumbers version state commands → used ≡ length commands
       → Holds version image state commands (record { sequence = header.sequence; used = used })
   holds_there state commands used snapshot reported facts has clear numbers is_used =
       holds_here version image header counts state commands used snapshot reported facts (records_there commands has)
