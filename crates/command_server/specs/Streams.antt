@@ -46,14 +46,14 @@ rest_after reads text = drop (length (text_given reads)) text
 
 -- The knowledge about an input: its bytes, if they were known beforehand, and the results of the reads before
 -- and after.
-pub record Given : Type 0 where
+pub record InputRecord : Type 0 where
   pub known : Option (List ℕ)
   pub before : List (List ℕ)
   pub after : List (List ℕ)
 
 -- The input: the bytes known beforehand or, of a text that the reads returned, the part that was not read
 -- before.
-abbrev pub IsInput : Given → List ℕ → Type 0
+abbrev pub IsInput : InputRecord → List ℕ → Type 0
 IsInput given input = (given.known ≡ Some input) ⊎ ((text : List ℕ) × GaveText given.after text × (input ≡ rest_after given.before text))
 
 -- A sink: the bytes that it holds, if they are known, and its events in order.
