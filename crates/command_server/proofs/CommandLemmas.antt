@@ -60,7 +60,7 @@ use Rattle.command_server.proofs.CutLemmas.{CutLaws, cut_pieces}
 use Rattle.command_server.proofs.StreamLemmas.{extends_none, extends_on, none_put}
 use Rattle.command_server.proofs.AttemptLemmas.{requested_front}
 use Rattle.command_server.proofs.TurnLemmas.{either_part, events_both, reported_before}
-use Rattle.command_server.proofs.ServeLemmas.{answers_as, leads_as, leads_nothing, leads_on, leads_to, serves_as, serves_nothing, serves_on, tells_as, tells_nothing, tells_to}
+use Rattle.command_server.proofs.ServeLemmas.{answers_as, leads_as, leads_nothing, leads_on, leads_to, serves_as, serves_nothing, serves_on, reports_as, reports_nothing, reports_to}
 use Rattle.sector_disk.specs.declared.sectors.Sectors as sectors
 
 -- ---- a piece, and those after it
@@ -226,8 +226,8 @@ module _ {D : Type 0} (on : sectors.Ghosts D) (reading : Reading) (old new : Ses
   leads_first : (reported : SessionValue D) (g : ServerState → Reply) (t : List ℕ) → Leads on old requests_kept t reported g → Leads on old (λ s. served reading s (p ∷ ps)) t reported (with_rest g)
   leads_first reported g t l = leads_as old reported (with_rest requests_kept) (λ s. served reading s (p ∷ ps)) (with_rest g) t (λ fates. served_first (as_server_state old fates)) (leads_within reported requests_kept g t l)
 
-  tells_within : (reported : SessionValue D) (f g : ServerState → Reply) (t : List ℕ) → Reports on reported f t new g → Reports on reported (with_rest f) t new (with_rest g)
-  tells_within reported f g t l = record {
+  reports_within : (reported : SessionValue D) (f g : ServerState → Reply) (t : List ℕ) → Reports on reported f t new g → Reports on reported (with_rest f) t new (with_rest g)
+  reports_within reported f g t l = record {
     acts = l.acts;
     run = l.run;
     says = λ later.
@@ -238,17 +238,17 @@ module _ {D : Type 0} (on : sectors.Ghosts D) (reading : Reading) (old new : Ses
     few = l.few;
   }
 
-  tells_first : (g : ServerState → Reply) (t : List ℕ) → Reports on old requests_kept t new g → Reports on old (λ s. served reading s (p ∷ ps)) t new (with_rest g)
-  tells_first g t l = tells_as old new (with_rest requests_kept) (λ s. served reading s (p ∷ ps)) (with_rest g) t (λ fates. served_first (as_server_state old fates)) (tells_within old requests_kept g t l)
+  reports_first : (g : ServerState → Reply) (t : List ℕ) → Reports on old requests_kept t new g → Reports on old (λ s. served reading s (p ∷ ps)) t new (with_rest g)
+  reports_first g t l = reports_as old new (with_rest requests_kept) (λ s. served reading s (p ∷ ps)) (with_rest g) t (λ fates. served_first (as_server_state old fates)) (reports_within old requests_kept g t l)
 
   -- the answers to the steps that are left, and to the pieces after them
   rest_is : (later : Option (List Command)) (s : ServerState) → with_rest (still_executed later) s ≡ still reading later ps s
   rest_is None s = refl
   rest_is (Some commands) s = refl
 
-  tells_still : (reported : SessionValue D) (f : ServerState → Reply) (later : Option (List Command)) (t : List ℕ)
+  reports_still : (reported : SessionValue D) (f : ServerState → Reply) (later : Option (List Command)) (t : List ℕ)
       → Reports on reported f t new (with_rest (still_executed later)) → Reports on reported f t new (still reading later ps)
-  tells_still reported f later t l = tells_to reported new f (with_rest (still_executed later)) (still reading later ps) t (λ fates. rest_is later (as_server_state new fates)) l
+  reports_still reported f later t l = reports_to reported new f (with_rest (still_executed later)) (still reading later ps) t (λ fates. rest_is later (as_server_state new fates)) l
 
   pub requested_cut : CutOff on old requests_kept x y new → IsCutShort on reading old (p ∷ ps) x y new
   unfolding leads_nothing leads_as leads_within leads_first
@@ -267,7 +267,7 @@ module _ {D : Type 0} (on : sectors.Ghosts D) (reading : Reading) (old new : Ses
     later_split = refl;
     one = omega arith;
     last = c.last;
-    reports = tells_still old (λ s. served reading s (p ∷ ps)) c.later c.last (tells_first (still_executed c.later) c.last c.reports);
+    reports = reports_still old (λ s. served reading s (p ∷ ps)) c.later c.last (reports_first (still_executed c.later) c.last c.reports);
     flushed_stream = x;
     written = extends_none x;
     part = c.part;
@@ -287,7 +287,7 @@ module _ {D : Type 0} (on : sectors.Ghosts D) (reading : Reading) (old new : Ses
     later_split = refl;
     one = omega arith;
     last = c.last;
-    reports = tells_still c.reported (with_rest (λ s. executed_all s c.commands)) c.later c.last (tells_within c.reported (λ s. executed_all s c.commands) (still_executed c.later) c.last c.reports);
+    reports = reports_still c.reported (with_rest (λ s. executed_all s c.commands)) c.later c.last (reports_within c.reported (λ s. executed_all s c.commands) (still_executed c.later) c.last c.reports);
     flushed_stream = c.flushed_stream;
     written = c.written;
     part = c.part;
@@ -337,17 +337,17 @@ module _ {D E : Type 0} (on : sectors.Ghosts D) (reading : Reading) (a : ParsedC
 
 -- a line that parses to `a` and announces no bytes, after which serving continues or ends
 module _ {D E : Type 0} {line a : ParsedCommand} {known : Option (List ℕ)} (on : sectors.Ghosts D) (old new : SessionValue D) (x y : Stream)
-    (r : Result Flow ServeFault) (reading : Reading) (rest : List ℕ) (asks_for : line ≡ a) (reported : Result ⊤ E) where
+    (r : Result Flow ServeFault) (reading : Reading) (rest : List ℕ) (is_line : line ≡ a) (reported : Result ⊤ E) where
   pub line_on : MatchResult reported (λ _. r ≡ Ok Continue) (λ _. r ≡ Err fault.WriteFault) → cut_at a rest ≡ record { requested = a; text = [] } ∷ pieces_of rest → known ≡ Some rest
       → Answers on reported old (λ s. command_reply reading s a [] (is_short (record { requested = a; text = [] }))) x y new silent → ContinuesOrIsCut on r reading old (cut_at line rest) x y new known
   line_on is cut known_is answers =
-      subst (λ b. ContinuesOrIsCut on r reading old (cut_at b rest) x y new known) (sym asks_for)
+      subst (λ b. ContinuesOrIsCut on r reading old (cut_at b rest) x y new known) (sym is_line)
       (once_reported on reading a rest old new x y known r reported Continue (pieces_of rest) is cut answers (line_served_on reading a rest old new x y known cut known_is))
 
   pub line_ends : MatchResult reported (λ _. r ≡ Ok Finish) (λ _. r ≡ Err fault.WriteFault) → cut_at a rest ≡ record { requested = a; text = [] } ∷ [] → known ≡ Some rest
       → Answers on reported old (λ s. command_reply reading s a [] (is_short (record { requested = a; text = [] }))) x y new silent → ContinuesOrIsCut on r reading old (cut_at line rest) x y new known
   line_ends is cut known_is answers =
-      subst (λ b. ContinuesOrIsCut on r reading old (cut_at b rest) x y new known) (sym asks_for)
+      subst (λ b. ContinuesOrIsCut on r reading old (cut_at b rest) x y new known) (sym is_line)
       (once_reported on reading a rest old new x y known r reported Finish [] is cut answers (line_served_last reading a rest old new x y known cut known_is))
 
 -- ---- a text that a line announces
@@ -566,7 +566,7 @@ cut_where {on = on} reading old mid pieces front following x y split serves line
   later_split = refl;
   one = omega arith;
   last = [];
-  reports = tells_nothing mid (λ s. served reading s following);
+  reports = reports_nothing mid (λ s. served reading s following);
   flushed_stream = y;
   written = serves.written;
   part = none_put y (on.calls mid.device);

@@ -13,7 +13,7 @@ use Rattle.sector_disk.specs.declared.sectors.Sectors as sectors
 use Rattle.command_server.specs.Acts.{commands_of, fates_of, kept_of, replies_of, without_failures}
 use Rattle.command_server.specs.ServeContract.{as_server_state, still}
 use Rattle.command_server.specs.CrashRecovery.{IsRunOfInput, ServedHeadline, ServingsAreRuns, acts_of}
-use Rattle.command_server.proofs.ActLemmas.{asks_both, begins_as, run_both}
+use Rattle.command_server.proofs.ActLemmas.{requests_both, begins_as, run_both}
 use Rattle.command_server.proofs.AttemptLemmas.{requested_both}
 
 module _ {D : Type 0} (on : sectors.Ghosts D) where
@@ -27,7 +27,7 @@ module _ {D : Type 0} (on : sectors.Ghosts D) where
         run = run_both on old cut.reported new first last cut.answered.run cut.reports.run;
         requested = requested_both first last old cut.reported (λ s. served reading s (pieces_of input)) (still reading cut.commands cut.following) cut.text cut.answered.says cut.answered.requested cut.reports.requested;
         requests_kept = begins_as (kept_of (first ++ last)) _ _ (ap all (sym (append-nil (without_failures (fates_of (first ++ last))))))
-            (asks_both first last old cut.reported (λ s. served reading s (pieces_of input)) (still reading cut.commands cut.following) cut.text cut.answered.says cut.answered.requests_kept cut.reports.requests_kept []);
+            (requests_both first last old cut.reported (λ s. served reading s (pieces_of input)) (still reading cut.commands cut.following) cut.text cut.answered.says cut.answered.requests_kept cut.reports.requests_kept []);
       }
 
 pub weaker : (P Q : State → Type 0) → ((state : State) → P state → Q state) → (outcome : Result State StoreFault) → ReturnsUnlessFailed P outcome → ReturnsUnlessFailed Q outcome

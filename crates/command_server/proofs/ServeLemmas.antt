@@ -48,7 +48,7 @@ use Rattle.command_server.specs.Streams.{Extends, WritesAndFlushes, IsWrittenAnd
 use Rattle.command_server.specs.Acts.{Applied, IsPrefixOf, IsAttempt, Turn, executed_of, events_by, events_in, fates_of, kept_of, without_failures}
 use Rattle.command_server.specs.ServeContract.{AreRequested, Leads, Reports, as_server_state, preceded}
 use Rattle.command_server.specs.ServeSteps.{Answers, IsAppliedOn, Serves, answer_to_denial, progress_of, silent, still_executed}
-use Rattle.command_server.proofs.ActLemmas.{asks_both, begins_as, begins_at_all, carried_both, fates_before, run_both}
+use Rattle.command_server.proofs.ActLemmas.{requests_both, begins_as, begins_at_all, carried_both, fates_before, run_both}
 use Rattle.command_server.proofs.StreamLemmas.{extends_none, extends_on}
 use Rattle.command_server.proofs.TurnLemmas.{events_both, is_turn, reported_as, reported_both, reported_nothing, reported_once}
 use Rattle.command_server.proofs.AttemptLemmas.{requested_as, requested_both, requested_command, requested_nothing}
@@ -68,8 +68,8 @@ after_both s (c ∷ cs) ds = after_both (effect s c) cs ds
 unfoldable pub leads_nothing : {D : Type 0} {on : sectors.Ghosts D} (s : SessionValue D) (f : ServerState → Reply) → Leads on s f [] s f
 leads_nothing s f = record { acts = []; turns = []; run = refl; reported = reported_nothing s f; says = λ later. refl; requested = requested_nothing s f; requests_kept = λ later. begins_at_all _; state = refl }
 
-pub tells_nothing : {D : Type 0} {on : sectors.Ghosts D} (s : SessionValue D) (f : ServerState → Reply) → Reports on s f [] s f
-tells_nothing s f = record { acts = []; run = refl; says = λ later. refl; requested = requested_nothing s f; requests_kept = λ later. begins_at_all _; state = refl; few = omega arith }
+pub reports_nothing : {D : Type 0} {on : sectors.Ghosts D} (s : SessionValue D) (f : ServerState → Reply) → Reports on s f [] s f
+reports_nothing s f = record { acts = []; run = refl; says = λ later. refl; requested = requested_nothing s f; requests_kept = λ later. begins_at_all _; state = refl; few = omega arith }
 
 unfoldable pub leads_on : {D : Type 0} {on : sectors.Ghosts D} (a b c : SessionValue D) (f g h : ServerState → Reply) (t u : List ℕ) → Leads on a f t b g → Leads on b g u c h → Leads on a f (t ++ u) c h
 leads_on {on = on} a b c f g h t u p q = record {
@@ -82,7 +82,7 @@ leads_on {on = on} a b c f g h t u p q = record {
       ∙ preceded_twice t u (executed_of p.acts) (executed_of q.acts) (h (as_server_state c later))
       ∙ ap (λ cs. preceded (t ++ u) cs (h (as_server_state c later))) (sym (carried_both p.acts q.acts));
   requested = requested_both p.acts q.acts a b f g t p.says p.requested q.requested;
-  requests_kept = asks_both p.acts q.acts a b f g t p.says p.requests_kept q.requests_kept;
+  requests_kept = requests_both p.acts q.acts a b f g t p.says p.requests_kept q.requests_kept;
   state = q.state ∙ ap (λ s. after s (executed_of q.acts)) p.state ∙ sym (after_both a.state (executed_of p.acts) (executed_of q.acts)) ∙ ap (after a.state) (sym (carried_both p.acts q.acts));
 }
 
@@ -114,9 +114,9 @@ leads_as a b f f' g t same p = record {
   state = p.state;
 }
 
-pub tells_as : {D : Type 0} {on : sectors.Ghosts D} (a b : SessionValue D) (f f' g : ServerState → Reply) (t : List ℕ)
+pub reports_as : {D : Type 0} {on : sectors.Ghosts D} (a b : SessionValue D) (f f' g : ServerState → Reply) (t : List ℕ)
     → ((fates : List Fate) → f' (as_server_state a fates) ≡ f (as_server_state a fates)) → Reports on a f t b g → Reports on a f' t b g
-tells_as a b f f' g t same p = record {
+reports_as a b f f' g t same p = record {
   acts = p.acts;
   run = p.run;
   says = λ later. same (fates_of p.acts ++ later) ∙ p.says later;
@@ -146,9 +146,9 @@ leads_to a b f g g' t same p = record {
   state = p.state;
 }
 
-pub tells_to : {D : Type 0} {on : sectors.Ghosts D} (a b : SessionValue D) (f g g' : ServerState → Reply) (t : List ℕ)
+pub reports_to : {D : Type 0} {on : sectors.Ghosts D} (a b : SessionValue D) (f g g' : ServerState → Reply) (t : List ℕ)
     → ((fates : List Fate) → g (as_server_state b fates) ≡ g' (as_server_state b fates)) → Reports on a f t b g → Reports on a f t b g'
-tells_to a b f g g' t same p = record {
+reports_to a b f g g' t same p = record {
   acts = p.acts;
   run = p.run;
   says = λ later. p.says later
@@ -219,7 +219,7 @@ pub answers_as : {D T E : Type 0} (on : sectors.Ghosts D) (r : Result T E) (a b 
     → Answers on r a f' x y b g
 unfolding leads_as
 answers_as on (Ok done) a b f f' g x y same p = serves_as a b f f' g x y same p
-answers_as on (Err fault) a b f f' g x y same (inl p) = inl (record { last = p.last; later = p.later; reports = tells_as a b f f' (still_executed p.later) p.last same p.reports; part = p.part })
+answers_as on (Err fault) a b f f' g x y same (inl p) = inl (record { last = p.last; later = p.later; reports = reports_as a b f f' (still_executed p.later) p.last same p.reports; part = p.part })
 answers_as on (Err fault) a b f f' g x y same (inr p) = inr (record {
   commands = p.commands;
   reported = p.reported;
@@ -238,8 +238,8 @@ answers_as on (Err fault) a b f f' g x y same (inr p) = inr (record {
 pub answered_is : (s : ServerState) (a : Answer) → answered s a ≡ preceded (line (answer_text a)) [] (silent s)
 answered_is s a = ap (λ (x : List ℕ). record { text = x; commands = []; left = s }) (sym (append-nil (line (answer_text a))))
 
-pub tells_answer : {D : Type 0} {on : sectors.Ghosts D} (s : SessionValue D) (a : Answer) → Reports on s (λ t. answered t a) (line (answer_text a)) s silent
-tells_answer s a = record {
+pub reports_answer : {D : Type 0} {on : sectors.Ghosts D} (s : SessionValue D) (a : Answer) → Reports on s (λ t. answered t a) (line (answer_text a)) s silent
+reports_answer s a = record {
   acts = [];
   run = refl;
   says = λ later. answered_is (as_server_state s later) a;
@@ -422,9 +422,9 @@ module _ {D : Type 0} (on : sectors.Ghosts D) (old new : SessionValue D) (comman
   plain_err d e = ends_with (λ s. answered s answer.Ok) d e
 
 -- an answer that leaves the session as it is is reported
-pub tells_same : {D : Type 0} {on : sectors.Ghosts D} (s : SessionValue D) (f : ServerState → Reply) (a : Answer)
+pub reports_same : {D : Type 0} {on : sectors.Ghosts D} (s : SessionValue D) (f : ServerState → Reply) (a : Answer)
     → ((fates : List Fate) → f (as_server_state s fates) ≡ answered (as_server_state s fates) a) → Reports on s f (line (answer_text a)) s silent
-tells_same s f a same = tells_as s s (λ t. answered t a) f silent (line (answer_text a)) same (tells_answer s a)
+reports_same s f a same = reports_as s s (λ t. answered t a) f silent (line (answer_text a)) same (reports_answer s a)
 
 -- ---- steps
 
@@ -446,7 +446,7 @@ pub next_done : {D : Type 0} {on : sectors.Ghosts D} (old mid : SessionValue D) 
     → IsAppliedOn on old command reply mid → reply.answer ≡ Ok x → Reports on old (λ s. executed_all s all) (printed_after command mid.state) mid (λ s. executed_all s rest)
 next_done {on = on} old mid command all rest reply x is applied ok =
     let done : ServerState → Reply = λ t. with_text (printed_after command t.state) (executed_all t rest) in
-    let p : Reports on old (λ s. executed_all s all) [] mid done = tells_as old mid (λ s. executed s command done) (λ s. executed_all s all) done []
+    let p : Reports on old (λ s. executed_all s all) [] mid done = reports_as old mid (λ s. executed s command done) (λ s. executed_all s all) done []
     (λ fates. ap (executed_all (as_server_state old fates)) is ∙ carried_cons (as_server_state old fates) command rest) (remaining_reply on old mid command reply applied done x ok) in
     record { acts = p.acts; run = p.run; says = λ later. p.says later; requested = p.requested; requests_kept = p.requests_kept; state = p.state; few = p.few }
 
@@ -476,7 +476,7 @@ module _ {D : Type 0} {on : sectors.Ghosts D} {state : State} (old mid : Session
       let done : ServerState → Reply = λ t. with_text (printed_after command t.state) (executed_all t (commands_of rest (effect old.state command))) in
       let is : all ≡ command ∷ commands_of rest (effect old.state command) = follows_as steps rest command same first in
       subst (λ b. Reports on old (λ s. executed_all s all) (line (answer_text b)) mid silent) (sym reported)
-      (tells_as old mid (λ s. executed s command done) (λ s. executed_all s all) silent (line (answer_text (answer_to_denial d)))
+      (reports_as old mid (λ s. executed s command done) (λ s. executed_all s all) silent (line (answer_text (answer_to_denial d)))
       (λ fates. ap (executed_all (as_server_state old fates)) is ∙ carried_cons (as_server_state old fates) command (commands_of rest (effect old.state command)))
       (ends_with on old mid command reply applied done d err))
 
@@ -484,7 +484,7 @@ module _ {D : Type 0} {on : sectors.Ghosts D} {state : State} (old mid : Session
 pub all_done : {D : Type 0} {on : sectors.Ghosts D} (s : SessionValue D) (all : List Command) → all ≡ [] → Reports on s (λ t. executed_all t all) (line (answer_text answer.Ok)) s silent
 all_done {on = on} s all none =
     subst (λ cs. Reports on s (λ t. executed_all t cs) (line (answer_text answer.Ok)) s silent) (sym none)
-    (tells_same s (λ t. executed_all t []) answer.Ok (λ fates. carried_none (as_server_state s fates)))
+    (reports_same s (λ t. executed_all t []) answer.Ok (λ fates. carried_none (as_server_state s fates)))
 
 -- ---- a command that makes steps, before its first step
 
@@ -501,11 +501,11 @@ goal_begun : (goal : StepRequest) (s : ServerState) (steps : StepCursor) → s.i
 goal_begun goal s steps e f = rw (e, f) refl
 
 pub steps_broken : {D : Type 0} {on : sectors.Ghosts D} (goal : StepRequest) (s : SessionValue D) → s.is_broken ≡ true → Reports on s (by_goal goal) (line (answer_text answer.Broken)) s silent
-steps_broken goal s e = tells_same s (by_goal goal) answer.Broken (λ fates. goal_broken goal (as_server_state s fates) e)
+steps_broken goal s e = reports_same s (by_goal goal) answer.Broken (λ fates. goal_broken goal (as_server_state s fates) e)
 
 pub steps_refused : {D : Type 0} {on : sectors.Ghosts D} (goal : StepRequest) (s : SessionValue D) (a : Answer) → s.is_broken ≡ false → steps_to_make s.state goal ≡ Err a
     → Reports on s (by_goal goal) (line (answer_text a)) s silent
-steps_refused goal s a e f = tells_same s (by_goal goal) a (λ fates. goal_refused goal (as_server_state s fates) a e f)
+steps_refused goal s a e f = reports_same s (by_goal goal) a (λ fates. goal_refused goal (as_server_state s fates) a e f)
 
 pub steps_begun : {D T E : Type 0} (on : sectors.Ghosts D) (reported : Result T E) (goal : StepRequest) (s new : SessionValue D) (steps : StepCursor) (o y : Stream)
     → s.is_broken ≡ false → steps_to_make s.state goal ≡ Ok steps

@@ -181,13 +181,13 @@ module _ {R : Type 0} (on : sources.Ghosts R) where
   once_takes (Ok done) r to Takes is takes = subst (λ o. IfOk o Takes) (sym is) takes
   once_takes (Err failed) r to Takes is takes = subst (λ o. IfOk o Takes) (sym is) tt
 
-  module _ {E : Type 0} {line a : ParsedCommand} (r : Result Flow ServeFault) (input : Input) (reader : R) (asks_for : line ≡ a) (reported : Result ⊤ E) where
+  module _ {E : Type 0} {line a : ParsedCommand} (r : Result Flow ServeFault) (input : Input) (reader : R) (is_line : line ≡ a) (reported : Result ⊤ E) where
     pub reported_on : MatchResult reported (λ _. r ≡ Ok Continue) (λ _. r ≡ Err fault.WriteFault) → announced a ≡ 0 → is_end a false ≡ false → IfOk r (TakesAnnounced on line input reader input reader)
     reported_on is none goes =
-        once_takes reported r Continue (TakesAnnounced on line input reader input reader) is (line_takes line input reader (ap announced asks_for ∙ none) (ap (λ b. is_end b false) asks_for ∙ goes))
+        once_takes reported r Continue (TakesAnnounced on line input reader input reader) is (line_takes line input reader (ap announced is_line ∙ none) (ap (λ b. is_end b false) is_line ∙ goes))
 
     pub reported_to_end : MatchResult reported (λ _. r ≡ Ok Finish) (λ _. r ≡ Err fault.WriteFault) → is_end a false ≡ true → IfOk r (TakesAnnounced on line input reader input reader)
-    reported_to_end is ends = once_takes reported r Finish (TakesAnnounced on line input reader input reader) is (line_ends line input reader (ap (λ b. is_end b false) asks_for ∙ ends))
+    reported_to_end is ends = once_takes reported r Finish (TakesAnnounced on line input reader input reader) is (line_ends line input reader (ap (λ b. is_end b false) is_line ∙ ends))
 
   text_takes : (purpose : Purpose) (len : ℕ) (text : AnnouncedText) (old new : Option (List ℕ)) → TakesAll len old new text → TakesKnown (Text purpose len) (flow_after text) old new
   text_takes purpose len (Whole text) None new l = tt

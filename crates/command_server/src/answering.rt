@@ -14,7 +14,7 @@ ghost use Rattle.command_server.specs.ServeSteps.{Answers, ContinuesOrIsCut, Has
 ghost use Rattle.command_server.specs.CrashRecovery.{RunsLeave};
 ghost use Rattle.command_server.specs.declared.answering.ServeFault.TheVariants.{WriteFault};
 
-use crate::hints::{Hint, log_hint, log_unseated};
+use crate::hints::{Hint, log_hint, log_unassigned};
 use crate::input::{AnnouncedText, Input, InputFault};
 use crate::streams::{IoFault, Sink, Source};
 use command_core::{Command, Job, Refusal, State};
@@ -30,14 +30,13 @@ use recover::{Denial, Reply, Session, runs_compose};
 use sector_disk::Sectors;
 use sol_text::WriteSolFault;
 use std::alloc::Global;
-use thiserror::Error;
 
 /// The reason why serving ended before the input was answered.
-#[derive(Clone, Copy, Debug, PartialEq, Eq, Error)]
+#[derive(Clone, Copy, Debug, PartialEq, Eq)]
 pub enum ServeFault {
-    #[error("the input can't be read, or is too long")]
+    /// The input can't be read, or is too long.
     ReadFault,
-    #[error("an answer can't be written")]
+    /// An answer can't be written.
     WriteFault,
 }
 
@@ -529,7 +528,7 @@ fn adopted<L: Log, D: Sectors>(
     match read_plan(alloc, job, text) {
         Ok(plan) => applied(rt, alloc, session, Command::Adopt(plan)),
         Err(why) => {
-            log_unseated(rt, why);
+            log_unassigned(rt, why);
             Answer::AssignmentFault(why)
         }
     }

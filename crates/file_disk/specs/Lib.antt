@@ -1,5 +1,4 @@
 -- Definitions that public contracts use
-pub mod SystemCalls
 pub mod Opening
 pub mod FileRecord
 pub mod FileCalls

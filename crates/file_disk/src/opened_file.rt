@@ -7,18 +7,17 @@
 //! file for reading only share the lock with each other.
 ghost use Rattle.std.specs.Prelude.{◌≡◌, ◌*◌, ◌/◌, ◌%◌, ◌^◌, ◌<◌, ◌≤◌, ◌≢◌, IfOk, IfErr, IsTrue, IsErrOf, Ok, Some, None, false, true, List, [], ◌∷◌};
 ghost use Rattle.std.specs.IoError.{error_kind};
-ghost use Rattle.file_disk.specs.SystemCalls.{answered};
-ghost use Rattle.file_disk.specs.Opening.{lock_failure, folder_failure, failure_by, failure_reported, first_failure, len_after, is_file_synced, is_synced, folder_of, folder_or_here, opened_in, finding_calls, effects_in, no_effects, with_folder, with_opened, is_shared, HasLen, IsResized, IsOpened, IsNotOpened, IsCreated, IsNotCreated};
+ghost use Rattle.system_calls.specs.FolderSync.{folder_of};
+ghost use Rattle.system_calls.specs.SystemCalls.{answered};
+ghost use Rattle.file_disk.specs.Opening.{lock_failure, failure_by, failure_reported, first_failure, len_after, is_file_synced, is_synced, opened_in, finding_calls, effects_in, no_effects, with_folder, with_opened, is_shared, HasLen, IsResized, IsOpened, IsNotOpened, IsCreated, IsNotCreated};
 
 use crate::FileFault;
 use crate::file_calls::SECTOR;
-use crate::system::{self, SystemCallLog};
-use crate::system_call::{Access, SystemCall};
 use crate::transfers::write_some;
 use std::fs::{File, Files};
 use std::io;
 use std::io::ErrorKind;
-use std::path::Path;
+use system_calls::{Access, SystemCall, SystemCallLog};
 
 /// The zeros of one write when a file is extended.
 const ZEROS: [u8; 4096] = [0; 4096];
@@ -100,7 +99,7 @@ impl OpenedFile {
         ensures effects { effects_in (answered noted.new)
             ≡ with_opened access path.now (effects_in (answered noted.old)) }
     {
-        let file = system::open(rt, path, access, noted)?;
+        let file = system_calls::open(rt, path, access, noted)?;
         Ok(OpenedFile {
             file,
             is_locked: false,
@@ -116,7 +115,7 @@ impl OpenedFile {
         ensures reported { first_failure (answered noted.new) ≡ failure_reported result }
         ensures effects { effects_in (answered noted.new) ≡ effects_in (answered noted.old) }
     {
-        if let Err(error) = system::lock(&self.file, is_shared, noted) {
+        if let Err(error) = system_calls::lock(&self.file, is_shared, noted) {
             return Err(lock_fault(error));
         }
         self.is_locked = true;
@@ -153,7 +152,7 @@ impl OpenedFile {
         ensures reported { first_failure (answered noted.new) ≡ failure_reported result }
         ensures effects { effects_in (answered noted.new) ≡ effects_in (answered noted.old) }
     {
-        let extent = system::measure(&self.file, noted)?;
+        let extent = system_calls::measure(&self.file, noted)?;
         if !extent.is_file {
             return Err(OpeningFault::from(FileFault::NoFile));
         }
@@ -195,7 +194,7 @@ fn settle_len(
         return shorten(file, len, noted);
     }
     if let Err(refusal) = lengthen(file, old, len, noted) {
-        let _ = system::set_len(file, old, noted);
+        let _ = system_calls::set_len(file, old, noted);
         return Err(refusal);
     }
     Ok(())
@@ -206,8 +205,8 @@ fn shorten(file: &File, len: u64, noted: &mut SystemCallLog) -> Result<(), Openi
     requires no_fault { first_failure (answered noted.old) ≡ None }
     ensures { IsResized result noted.old noted.new len }
 {
-    system::set_len(file, len, noted)?;
-    system::sync_all(file, noted)?;
+    system_calls::set_len(file, len, noted)?;
+    system_calls::sync_all(file, noted)?;
     Ok(())
 }
 
@@ -218,7 +217,7 @@ fn lengthen(file: &File, old: u64, len: u64, noted: &mut SystemCallLog) -> Resul
     ensures { IsResized result noted.old noted.new len }
 {
     write_zeros(file, old, len, noted)?;
-    system::sync_all(file, noted)?;
+    system_calls::sync_all(file, noted)?;
     Ok(())
 }
 
@@ -269,7 +268,7 @@ fn require_plain_file<R: Files>(
     ensures effects { effects_in (answered noted.new) ≡ effects_in (answered noted.old) }
     ensures len { len_after (answered noted.new) ≡ len_after (answered noted.old) }
 {
-    if !system::find(rt, path, noted)? {
+    if !system_calls::find(rt, path, noted)? {
         return Err(OpeningFault::from(FileFault::NoFile));
     }
     Ok(())
@@ -348,35 +347,6 @@ fn sync_folder<R: Files<File = File>>(
     ensures opened { opened_in noted.new ≡ with_folder (folder_of path.now) (opened_in noted.old) }
     ensures synced { IfOk result (λ _. IsTrue (is_synced (answered noted.new))) }
 {
-    let folder = system::open_folder(rt, folder_of(path), noted)?;
-    match system::sync_folder(&folder, noted) {
-        Ok(()) => Ok(()),
-        Err(error) => folder_sync_result(error),
-    }
-}
-
-// Returns the folder of the file at a path.
-fn folder_of(path: &str) -> &str
-    ensures { result.now ≡ folder_of path.now }
-{
-    match Path::new(path).parent() {
-        Some(parent) => folder_or_here(parent.as_str()),
-        None => ".",
-    }
-}
-
-fn folder_or_here(folder: &str) -> &str
-    ensures { result.now ≡ folder_or_here (Some folder.now) }
-{
-    if folder.is_empty() { "." } else { folder }
-}
-
-// Returns the result of a failed folder sync: `Ok` if the file system does not support it.
-fn folder_sync_result(error: io::Error) -> Result<(), OpeningFault>
-    ensures { failure_reported result ≡ folder_failure (error_kind error) }
-{
-    match error.kind() {
-        ErrorKind::InvalidInput => Ok(()),
-        _ => Err(OpeningFault::from(error)),
-    }
+    system_calls::sync_folder_of(rt, path, noted)?;
+    Ok(())
 }

@@ -163,7 +163,7 @@ keeps_answers on again reading reads reported_law since run device is law m imag
     reported_law reading is.session is.new run.input runs.opened runs.answered runs.served m events others ((runs.ends.serves run.input is.is_input).serves reading reads) noted timely in
     let part = law m image other left outcome stop given settled opens in
     weaker (IsRecovered is.session.state (kept_of acts) (acknowledged_count m (replies_of acts))) (KeepsPrintedAnswers on again reading reads run device is m (put_by events))
-    (λ given found. record { reported = reported; asks = part.0; recovered = found; holds = omega (arith, reported.acknowledged, found.all_acknowledged) }) outcome part.1
+    (λ given found. record { reported = reported; requests = part.0; recovered = found; holds = omega (arith, reported.acknowledged, found.all_acknowledged) }) outcome part.1
 
 pub run_keeps_answers : {D E : Type 0} (on : sectors.Ghosts D) (again : sectors.Ghosts E) (reading : Reading) (reads : IsReading reading)
     → AnswersComeAfter on → RunRecovers on again reading reads → RunKeepsAnswers on again reading reads

@@ -5,7 +5,7 @@ use Rattle.checkpoint.specs.declared.faults.FormatFault.{FormatFault}
 use Rattle.checkpoint.specs.declared.faults.StoreFault.{StoreFault}
 use Rattle.checkpoint.specs.declared.faults.StoreFault.TheVariants.{NotFormatted}
 use Rattle.checkpoint.specs.declared.places.Place.{Place}
-use Rattle.command_server.specs.Streams.{Given, Stream}
+use Rattle.command_server.specs.Streams.{InputRecord, Stream}
 use Rattle.planner_cli.specs.Format.{IsFormatted}
 use Rattle.planner_cli.specs.StoreDevices.{IsLeftOnFailure}
 use Rattle.planner_cli.specs.Opening.{MayAnnounceReplay, HoldsNoStore, IsNewFile, IsReadyStore, IsOpening, IsOpeningOf, IsOpenFailure, PrintsOpenFailure}
@@ -47,7 +47,7 @@ module _ {D : Type 0} (on : sectors.Ghosts D) where
 
 -- ---- The subcommand `run`, if its store was not opened
 
-module _ {D : Type 0} (on : sectors.Ghosts D) (IsOld : D → Type 0) (path : List ℕ) (is_strict : Bool) (given : Given) (before after : Stream) (reader_failed writer_failed : Bool) where
+module _ {D : Type 0} (on : sectors.Ghosts D) (IsOld : D → Type 0) (path : List ℕ) (is_strict : Bool) (given : InputRecord) (before after : Stream) (reader_failed writer_failed : Bool) where
   pub unopened_runs : (status : ℕ) (unopened : OpenFailure D) → IsOpenFailure on IsOld (λ device. ⊥) (IsNotOpenedExistingAt path) unopened → PrintsOpenFailure path unopened before.contents after.contents status
       → RunsStore on (λ p. IsOld) path is_strict given before after reader_failed writer_failed status
   unopened_runs status (File refusal) is reported = inr (refusal, is, reported)

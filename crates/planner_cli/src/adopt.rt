@@ -82,7 +82,7 @@ fn adopt_store<R, X: DeviceFiles, T: FileAssumptions, W: Write, E: Write>(
 where
     R: Eprint + AllocGlobal,
     ensures status { IfOk result.0 (λ status. status ≤ 4) }
-    ensures asks { X.requested disks.new ≡ (FileRequest.OpenExisting, store.now) ∷ X.requested disks.old }
+    ensures requests { X.requested disks.new ≡ (FileRequest.OpenExisting, store.now) ∷ X.requested disks.old }
     ensures adopts { AdoptsStore ⟦<FileDevice<T> as Sectors>⟧
         (IsOpenedExistingAt ⟦<HostFile as FileCalls>⟧.entries) store.now text.now
         (held W.contents output.old) (held W.contents output.new) result.0 result.1 }

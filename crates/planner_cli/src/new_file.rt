@@ -23,7 +23,7 @@ pub(crate) fn open_new<R: AllocGlobal, X: DeviceFiles, T: FileAssumptions, E: Wr
     store: &str,
     errors: &mut E,
 ) -> Result<OpenedStore<FileDevice<T>>, OpenFailure<FileDevice<T>>>
-    ensures asks { X.requested disks.new ≡ (FileRequest.Create, store.now) ∷ X.requested disks.old }
+    ensures requests { X.requested disks.new ≡ (FileRequest.Create, store.now) ∷ X.requested disks.old }
     ensures opens { IsNewOpening ⟦<FileDevice<T> as Sectors>⟧
         (IsCreatedAt ⟦<HostFile as FileCalls>⟧.entries) store.now result }
 {

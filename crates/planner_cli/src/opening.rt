@@ -110,7 +110,7 @@ pub(crate) fn open_store<R: AllocGlobal, X: DeviceFiles, T: FileAssumptions, E: 
     store: &str,
     errors: &mut E,
 ) -> Result<OpenedStore<FileDevice<T>>, OpenFailure<FileDevice<T>>>
-    ensures asks { X.requested disks.new ≡ (FileRequest.OpenExisting, store.now) ∷ X.requested disks.old }
+    ensures requests { X.requested disks.new ≡ (FileRequest.OpenExisting, store.now) ∷ X.requested disks.old }
     ensures opens { IsStoreOpening ⟦<FileDevice<T> as Sectors>⟧
         (IsOpenedExistingAt ⟦<HostFile as FileCalls>⟧.entries) store.now result }
     ensures announced { IfErr result (λ unopened. MayAnnounceReplay unopened

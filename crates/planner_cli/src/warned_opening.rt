@@ -31,7 +31,7 @@ pub(crate) fn open_with_warning<R: AllocGlobal, X: DeviceFiles, T: FileAssumptio
     store: &str,
     errors: &mut E,
 ) -> Result<OpenedStore<FileDevice<T>>, OpenFailure<FileDevice<T>>>
-    ensures asks { X.requested disks.new ≡ (FileRequest.OpenExisting, store.now) ∷ X.requested disks.old }
+    ensures requests { X.requested disks.new ≡ (FileRequest.OpenExisting, store.now) ∷ X.requested disks.old }
     ensures opens { IsStoreOpening ⟦<FileDevice<T> as Sectors>⟧
         (IsOpenedExistingAt ⟦<HostFile as FileCalls>⟧.entries) store.now result }
     ensures announced { IfErr result (λ unopened. MayAnnounceReplay unopened

@@ -10,13 +10,13 @@ use Rattle.instance_text.specs.Texts.{instance_text}
 use Rattle.instance_text.specs.declared.faults.WriteFault.TheVariants as instance_fault
 use Rattle.command_server.specs.ServeContract.{Reports}
 use Rattle.command_server.specs.ServeSteps.{silent}
-use Rattle.command_server.proofs.ReplyLemmas.{job_refuses, job_reported, job_unmade, sayable_is, sayable_ok, sayable_unmade, tells_none, unsayable_is, unsayable_reported}
+use Rattle.command_server.proofs.ReplyLemmas.{job_refuses, job_reported, job_unmade, sayable_is, sayable_ok, sayable_unmade, reports_none, unsayable_is, unsayable_reported}
 use Rattle.command_server.proofs.answering.instance_reply.Goals as goal
 
 pub returns-in_err-job : goal.returns-in_err-job
 returns-in_err-job g c =
     let p = err_from_is_err_and c.from_residual.result c.from_residual.ensures.1 in
-    rw (p.1, p.2) (tells_none instance_reply c.args.session.now c.in_err-job.field-0.0 (λ t. refl) c.in_err-job.ensures.none)
+    rw (p.1, p.2) (reports_none instance_reply c.args.session.now c.in_err-job.field-0.0 (λ t. refl) c.in_err-job.ensures.none)
 
 pub returns-in-Ok : goal.returns-in-Ok
 returns-in-Ok g c =

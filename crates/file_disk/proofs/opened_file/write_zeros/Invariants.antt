@@ -1,7 +1,7 @@
 -- No call has failed so far, and the file ends after the zeros written so far. Each iteration leaves fewer to
 -- write.
 use Rattle.std.proofs.Common.{◌≡◌, ◌≤◌, ◌-◌, Some, None}
-use Rattle.file_disk.specs.SystemCalls.{answered}
+use Rattle.system_calls.specs.SystemCalls.{answered}
 use Rattle.file_disk.specs.Opening.{first_failure, len_after, opened_in}
 use Rattle.file_disk.proofs.opened_file.write_zeros.Given as goal
 

@@ -4,13 +4,13 @@ use Rattle.std.specs.declared.io.ErrorKind.{ErrorKind}
 use Rattle.std.specs.declared.io.ErrorKind.TheVariants as kind
 use Rattle.std.specs.declared.io.Error.{Error}
 use Rattle.std.specs.IoError.{error_kind}
-use Rattle.file_disk.specs.declared.system.FileMetadata.{FileMetadata}
-use Rattle.file_disk.specs.declared.system_call.SystemCall.{SystemCall}
-use Rattle.file_disk.specs.declared.system_call.SystemCall.TheVariants.{Find, FindFailed, Measure, MeasureFailed, ReadAt, ReadAtFailed, WriteAt, WriteAtFailed}
+use Rattle.system_calls.specs.declared.calls.FileMetadata.{FileMetadata}
+use Rattle.system_calls.specs.declared.system_call.SystemCall.{SystemCall}
+use Rattle.system_calls.specs.declared.system_call.SystemCall.TheVariants.{Find, FindFailed, Measure, MeasureFailed, ReadAt, ReadAtFailed, WriteAt, WriteAtFailed}
 
 -- a call with the bytes that were read or written, or with the path that was opened
-abbrev pub Noted : Type 0
-Noted = SystemCall × List ℕ
+abbrev pub RecordedCall : Type 0
+RecordedCall = SystemCall × List ℕ
 
 abbrev pub kind_in : {T : Type 0} → Result T Error → Option ErrorKind
 kind_in (Ok _) = None
@@ -52,6 +52,6 @@ is_interrupted (WriteAtFailed offset kind) = is_interruption kind
 is_interrupted _ = false
 
 -- the calls without the interrupted ones
-abbrev pub answered : List Noted → List Noted
+abbrev pub answered : List RecordedCall → List RecordedCall
 answered [] = []
 answered (call ∷ earlier) = if is_interrupted call.0 then answered earlier else call ∷ answered earlier

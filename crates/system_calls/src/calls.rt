@@ -1,10 +1,9 @@
-//! The system calls of a device over a file. Each free function here makes one of them, and adds the call with
+//! The system calls on a file and its folder. Each free function here makes one of them, and adds the call with
 //! its answer to a record that only contracts read. No contract says what a system does, so it is trusted that
-//! each function makes the call that it records. Nothing else calls a `File`, and nothing else can record a
-//! call.
+//! each function makes the call that it records. Nothing else can record a call.
 ghost use Rattle.std.specs.Prelude.{◌≡◌, ◌≤◌, ◌<◌, length, List, [], ◌∷◌, IfOk};
 ghost use Rattle.std.specs.IoError.{error_kind};
-ghost use Rattle.file_disk.specs.SystemCalls.{found, kind_in, measured, read_at_answer, write_at_answer, IsPart};
+ghost use Rattle.system_calls.specs.SystemCalls.{found, kind_in, measured, read_at_answer, write_at_answer, IsPart};
 
 use crate::system_call::{Access, SystemCall};
 use ghost_values::{Ghost, ListOf};
@@ -23,9 +22,9 @@ pub struct SystemCallLog {
 
 impl Model for SystemCallLog {
     ghost use Rattle.std.specs.Prelude.{List};
-    ghost use Rattle.file_disk.specs.SystemCalls.{Noted};
+    ghost use Rattle.system_calls.specs.SystemCalls.{RecordedCall};
 
-    ghost Value = { List Noted };
+    ghost Value = { List RecordedCall };
 
     ghost view = { λ r. r.calls.value };
 }
