@@ -1,5 +1,7 @@
 //! `Planner`: a state that commands change in place.
-ghost use Rattle.std.specs.Prelude.{◌≡◌, ◌⊎◌, None, Some, IfOk, IfErr};
+ghost use Rattle.std.specs.Prelude.{◌≡◌, ◌⊎◌, None, Some, IfOk, IfErr, MatchOption};
+ghost use Rattle.route_sched.specs.Cost.{cost_of};
+ghost use Rattle.command_types.specs.declared.states.State.TheVariants.{Empty, Loaded};
 ghost use Rattle.command_types.specs.States.{IsState};
 ghost use Rattle.command_core.specs.Refusals.{refusal};
 ghost use Rattle.command_core.specs.Changes.{with_change, IsChanged};
@@ -8,9 +10,11 @@ use crate::acceptance::check;
 use crate::changes::Change;
 use crate::effects::{CommandOutcome, execute, keep_invariants};
 use crate::laws::commands_keep_invariants;
-use command_types::{Command, Refusal, State};
+use crate::step::incumbent_cost;
+use command_types::{Command, Job, Refusal, State};
 use log::Log;
 use log::sink::Discard;
+use plan_types::Cost;
 use seeded_search::SearchState;
 use std::alloc::Global;
 use std::marker::Model;
@@ -52,6 +56,18 @@ impl Planner {
         ensures { result.now ≡ self.now }
     {
         &self.state
+    }
+
+    /// Returns the job and the cost of its incumbent, if there is a job. After a command that made steps the cost
+    /// is known. Otherwise it is computed.
+    pub fn incumbent(&self) -> Option<(&Job, Cost)>
+        ensures { MatchOption result (self.now ≡ Empty) (λ found. (self.now ≡ Loaded found.0.now)
+            × (found.1 ≡ cost_of found.0.now.problem found.0.now.plan)) }
+    {
+        match &self.state {
+            State::Empty => None,
+            State::Loaded(job) => Some((job, incumbent_cost(job, &self.search_state))),
+        }
     }
 
     /// Consumes the planner and returns its state.

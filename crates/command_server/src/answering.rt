@@ -609,9 +609,9 @@ fn write_at_line<D: Sectors, W: Sink>(session: &Session<D>, writer: &mut W) -> R
     ensures failed { OnErr result (W.has_failed writer.new ≡ true) }
     ensures origin { W.origin writer.new ≡ W.origin writer.old }
 {
-    match session.state() {
-        State::Loaded(job) => put_line(session, writer, at_line(job).as_bytes()),
-        State::Empty => flush_unlogged(session, writer),
+    match session.incumbent() {
+        Some((job, cost)) => put_line(session, writer, at_line(job, cost).as_bytes()),
+        None => flush_unlogged(session, writer),
     }
 }
 
