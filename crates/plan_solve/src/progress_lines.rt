@@ -34,8 +34,7 @@ impl EndedJob {
 }
 
 /// Writes a progress line and flushes it, unless an earlier line could not be written. `cost` is that of the
-/// incumbent. Returns whether this
-/// line and all earlier ones were written.
+/// incumbent. Returns whether this line and all earlier ones were written.
 pub(crate) fn write_progress<W: Write>(
     is_written: bool,
     job: &Job,
