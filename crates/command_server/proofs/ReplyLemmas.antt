@@ -320,7 +320,7 @@ by_refusal j q r e t = ap (λ o. text_unless o t (question_text j q)) e
 pub sayable_is : (j : JobValue) → has_format j.problem ≡ true → (t : ServerState) → instance_reply t (Loaded j) ≡ text_then_ok (next_fate t.fates) (after_attempt t) (instance_text j.problem)
 sayable_is j e t = rw e refl
 
-pub unsayable_is : (j : JobValue) → has_format j.problem ≡ false → (t : ServerState) → instance_reply t (Loaded j) ≡ answered t (answer.Refused core.NoFormat)
+pub unsayable_is : (j : JobValue) → has_format j.problem ≡ false → (t : ServerState) → instance_reply t (Loaded j) ≡ answered t answer.NoFormat
 unsayable_is j e t = rw e refl
 
 -- if the text was made or memory ran out, the format can express the problem; if the result is `NoFormat`, it

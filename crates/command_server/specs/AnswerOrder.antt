@@ -4,7 +4,7 @@ use Rattle.std.specs.List.{AllByRecursion}
 use Rattle.command_text.specs.Answering.{Fate, served}
 use Rattle.command_text.specs.Cutting.{pieces_of}
 use Rattle.command_text.specs.Readings.{Reading}
-use Rattle.recover.specs.Replies.{acked}
+use Rattle.recover.specs.Replies.{acknowledged_count}
 use Rattle.recover.specs.Sessions.{SessionValue}
 use Rattle.sector_disk.specs.declared.sectors.Sectors as sectors
 use Rattle.command_server.specs.Acts.{Act, IsPrefixOf, executed_of, fates_of, replies_of}
@@ -26,7 +26,7 @@ pub record ReportsAcknowledged {D : Type 0} (reading : Reading) (old : SessionVa
   pub begins : IsPrefixOf first acts
   pub reports : (later : List Fate) → Begins text first (served reading (as_server_state old (fates_of first ++ later)) (pieces_of input))
   pub requested : IsPrefixOf (executed_of first) (requested_by reading old (pieces_of input) acts)
-  pub acknowledged : length (executed_of first) ≤ acked m (replies_of acts)
+  pub acknowledged : length (executed_of first) ≤ acknowledged_count m (replies_of acts)
 
 module _ {D : Type 0} (on : sectors.Ghosts D) where
   -- Law: for each prefix of the events at the sink, while at most m calls had finished, the text that was written

@@ -14,7 +14,7 @@ use Rattle.recover.specs.Headline.{OpensToImageState, IsRecovered}
 use Rattle.recover.specs.Composition.{IsRunOn}
 use Rattle.recover.specs.Moments.{RunLeaves}
 use Rattle.recover.specs.Opening.{ReturnsUnlessFailed}
-use Rattle.recover.specs.Replies.{acked}
+use Rattle.recover.specs.Replies.{acknowledged_count}
 use Rattle.recover.specs.Sessions.{SessionValue}
 use Rattle.recover.specs.declared.replies.Reply.{Reply}
 use Rattle.sector_disk.specs.Sectors.{Throughout}
@@ -38,7 +38,7 @@ requested_by reading session pieces acts = requested_commands reading session pi
 abbrev pub RecoversPrefixOf : {D : Type 0} → Reading → SessionValue D → List ℕ → List Act → ℕ → Result State StoreFault → Type 0
 RecoversPrefixOf reading old input acts m outcome =
     IsPrefixOf (kept_of acts) (requested_by reading old (pieces_of input) acts)
-    × ReturnsUnlessFailed (IsRecovered old.state (kept_of acts) (acked m (replies_of acts))) outcome
+    × ReturnsUnlessFailed (IsRecovered old.state (kept_of acts) (acknowledged_count m (replies_of acts))) outcome
 
 module _ {D : Type 0} (on : sectors.Ghosts D) where
   -- At each moment from old to new, each crash image recovers to the state after a prefix of the kept

@@ -552,7 +552,7 @@ fn serve_steps<L: Log, D: Sectors, W: Sink>(
     }
     match steps_to_make(session.state(), goal) {
         Ok(steps) => make_steps(rt, alloc, session, writer, steps),
-        Err(refusal) => write_answer(session, writer, Answer::Refused(refusal)),
+        Err(answer) => write_answer(session, writer, answer),
     }
 }
 
@@ -634,7 +634,7 @@ fn instance_reply<D: Sectors>(alloc: Global, session: &Session<D>) -> Result<Tex
     let job = job_of(session)?;
     match print_instance(alloc, job) {
         Ok(text) => Ok(text),
-        Err(instance_text::WriteFault::NoFormat) => Err(Answer::Refused(Refusal::NoFormat)),
+        Err(instance_text::WriteFault::NoFormat) => Err(Answer::NoFormat),
         Err(instance_text::WriteFault::OutOfMemory) => {
             Err(Answer::Refused(Refusal::OutOfMemory))
         }

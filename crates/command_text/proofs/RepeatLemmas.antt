@@ -50,6 +50,7 @@ use Rattle.command_types.specs.declared.commands.Command.{Command}
 use Rattle.command_types.specs.declared.commands.Command.TheVariants.{Deviation}
 use Rattle.command_types.specs.declared.refusals.Refusal.{Refusal}
 use Rattle.command_types.specs.declared.refusals.Refusal.TheVariants.{Range}
+use Rattle.command_text.specs.declared.answers.Answer.TheVariants as answer
 use Rattle.command_types.specs.declared.states.State.{State}
 use Rattle.command_types.specs.declared.states.State.TheVariants.{Empty, Loaded}
 use Rattle.command_core.proofs.NumberLemmas.{steps_counted}
@@ -219,10 +220,10 @@ module _ (from to : ℕ) where
   is_requested j = nat_le from j.steps && nat_le to (j.steps + MAX_REQUESTED_STEPS)
 
   not_begun : (j : JobValue) (fates : List Fate) → is_requested j ≡ false → left_by (unbroken_session (Loaded j) fates) ≡ Loaded j
-  not_begun j fates e = ap (λ b. (steps_or_refusal (unbroken_session (Loaded j) fates) (if b then Ok (makes.Stages from to) else Err Range)).left.state) e
+  not_begun j fates e = ap (λ b. (steps_or_refusal (unbroken_session (Loaded j) fates) (if b then Ok (makes.Stages from to) else Err (answer.Refused Range))).left.state) e
 
   is_begun : (j : JobValue) (fates : List Fate) → is_requested j ≡ true → left_by (unbroken_session (Loaded j) fates) ≡ (executed_all (unbroken_session (Loaded j) fates) (stage_commands from to j)).left.state
-  is_begun j fates e = ap (λ b. (steps_or_refusal (unbroken_session (Loaded j) fates) (if b then Ok (makes.Stages from to) else Err Range)).left.state) e
+  is_begun j fates e = ap (λ b. (steps_or_refusal (unbroken_session (Loaded j) fates) (if b then Ok (makes.Stages from to) else Err (answer.Refused Range))).left.state) e
 
   pub uncut : to ≤ 2 ^ 60 → (j : JobValue) → is_requested j ≡ true → left_by (unbroken_session (Loaded j) []) ≡ after (Loaded j) (stage_commands from to j)
   uncut room j e = is_begun j [] e ∙ all_whole (Loaded j) (stage_commands from to j) (stages_accepted room j)

@@ -213,37 +213,37 @@ with_return Over = refl
 with_return Other = refl
 
 record Ending (line : List ℕ) : Type 0 where
-  front : List ℕ
+  prefix : List ℕ
   byte : ℕ
-  whole : line ≡ front ++ byte ∷ []
+  whole : line ≡ prefix ++ byte ∷ []
 
 ending : (b : ℕ) (bs : List ℕ) → Ending (b ∷ bs)
-ending b [] = record { front = []; byte = b; whole = refl }
-ending b (c ∷ cs) = let e = ending c cs in record { front = b ∷ e.front; byte = e.byte; whole = ap (λ l. b ∷ l) e.whole }
+ending b [] = record { prefix = []; byte = b; whole = refl }
+ending b (c ∷ cs) = let e = ending c cs in record { prefix = b ∷ e.prefix; byte = e.byte; whole = ap (λ l. b ∷ l) e.whole }
 
-len_before : (front : List ℕ) (b : ℕ) → length (front ++ b ∷ []) - 1 ≡ length front
-len_before front b = omega (arith, length-append front (b ∷ []))
+len_before : (prefix : List ℕ) (b : ℕ) → length (prefix ++ b ∷ []) - 1 ≡ length prefix
+len_before prefix b = omega (arith, length-append prefix (b ∷ []))
 
-stripped : (front : List ℕ) (b : ℕ) → strip_carriage_return (front ++ b ∷ []) ≡ (if b == 13 then front else front ++ b ∷ [])
-stripped front b =
-    let line = front ++ b ∷ [] in
-    ap (λ n. if slice_index line n == 13 then take n line else line) (len_before front b)
-    ∙ ap (λ x. if x == 13 then take (length front) line else line) (get_or_at front b [] 0 (length front) refl)
-    ∙ ap (λ f. if b == 13 then f else line) (take-append_seam front (b ∷ []))
+stripped : (prefix : List ℕ) (b : ℕ) → strip_carriage_return (prefix ++ b ∷ []) ≡ (if b == 13 then prefix else prefix ++ b ∷ [])
+stripped prefix b =
+    let line = prefix ++ b ∷ [] in
+    ap (λ n. if slice_index line n == 13 then take n line else line) (len_before prefix b)
+    ∙ ap (λ x. if x == 13 then take (length prefix) line else line) (get_or_at prefix b [] 0 (length prefix) refl)
+    ∙ ap (λ f. if b == 13 then f else line) (take-append_seam prefix (b ∷ []))
 
-at_end : (front : List ℕ) (b : ℕ) → is_announcement (scanned (front ++ b ∷ [])) ≡ is_whole (scanned (strip_carriage_return (front ++ b ∷ [])))
-at_end front b = elim (cases_Bool (b == 13)) [
+at_end : (prefix : List ℕ) (b : ℕ) → is_announcement (scanned (prefix ++ b ∷ [])) ≡ is_whole (scanned (strip_carriage_return (prefix ++ b ∷ [])))
+at_end prefix b = elim (cases_Bool (b == 13)) [
   | inl t ↦ (
-      ap is_announcement (scanned_append Nothing front (b ∷ [])) ∙ ap (λ c. is_announcement (scanned_byte (scanned front) c)) (eqb-true b 13 t) ∙ with_return (scanned front)
-      ∙ sym (ap (λ l. is_whole (scanned l)) (stripped front b ∙ ap (λ t. if t then front else front ++ b ∷ []) t)))
+      ap is_announcement (scanned_append Nothing prefix (b ∷ [])) ∙ ap (λ c. is_announcement (scanned_byte (scanned prefix) c)) (eqb-true b 13 t) ∙ with_return (scanned prefix)
+      ∙ sym (ap (λ l. is_whole (scanned l)) (stripped prefix b ∙ ap (λ t. if t then prefix else prefix ++ b ∷ []) t)))
   | inr f ↦ (
-      ap is_announcement (scanned_append Nothing front (b ∷ [])) ∙ no_return (scanned front) b f ∙ sym (ap is_whole (scanned_append Nothing front (b ∷ [])))
-      ∙ sym (ap (λ l. is_whole (scanned l)) (stripped front b ∙ ap (λ t. if t then front else front ++ b ∷ []) f)))
+      ap is_announcement (scanned_append Nothing prefix (b ∷ [])) ∙ no_return (scanned prefix) b f ∙ sym (ap is_whole (scanned_append Nothing prefix (b ∷ [])))
+      ∙ sym (ap (λ l. is_whole (scanned l)) (stripped prefix b ∙ ap (λ t. if t then prefix else prefix ++ b ∷ []) f)))
 ]
 
 without_return : (piece : List ℕ) → is_announcement (scanned piece) ≡ is_whole (scanned (strip_carriage_return piece))
 without_return [] = refl
-without_return (b ∷ bs) = let e = ending b bs in subst (λ l. is_announcement (scanned l) ≡ is_whole (scanned (strip_carriage_return l))) (sym e.whole) (at_end e.front e.byte)
+without_return (b ∷ bs) = let e = ending b bs in subst (λ l. is_announcement (scanned l) ≡ is_whole (scanned (strip_carriage_return l))) (sym e.whole) (at_end e.prefix e.byte)
 
 pub says_first_word : LinesSplitIntoWords → (piece : List ℕ) → is_announcement (scanned piece) ≡ announces_text (words_of (strip_carriage_return piece))
 says_first_word made_of piece =

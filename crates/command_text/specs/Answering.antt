@@ -1,5 +1,5 @@
 -- The answers of a session to an input, and the operations that it executes.
-use Rattle.std.specs.Prelude.{ℕ, ◌+◌, ◌-◌, ◌/◌, ◌%◌, ◌^◌, ◌==◌, nat_le, ◌&&◌, Bool, true, false, if◌then◌else◌, List, [], ◌∷◌, ◌++◌, map, replicate, Option, Some, None, Result, Ok, Err}
+use Rattle.std.specs.Prelude.{ℕ, ◌+◌, ◌-◌, ◌/◌, ◌%◌, ◌==◌, nat_le, ◌&&◌, Bool, true, false, if◌then◌else◌, List, [], ◌∷◌, ◌++◌, map, replicate, Option, Some, None, Result, Ok, Err}
 use Rattle.plan_types.specs.Instance.{Instance}
 use Rattle.plan_types.specs.declared.requests.Kind.{Kind}
 use Rattle.plan_types.specs.declared.requests.Kind.TheVariants.{LiLim, Vrp}
@@ -10,16 +10,17 @@ use Rattle.instance_text.specs.Texts.{instance_text}
 use Rattle.command_types.specs.Commands.{makes_steps}
 use Rattle.command_core.specs.Effects.{effect}
 use Rattle.command_types.specs.Job.{JobValue}
+use Rattle.command_types.specs.declared.limits.TheConstants.{MAX_REDUCE_STEPS, MAX_SEARCH_STEPS}
 use Rattle.command_core.specs.Refusals.{refusal}
 use Rattle.command_types.specs.declared.states.State.{State}
 use Rattle.command_types.specs.declared.states.State.TheVariants.{Empty, Loaded}
 use Rattle.command_types.specs.declared.commands.Command.{Command}
 use Rattle.command_types.specs.declared.commands.Command.TheVariants as command
 use Rattle.command_types.specs.declared.refusals.Refusal.{Refusal}
-use Rattle.command_types.specs.declared.refusals.Refusal.TheVariants.{NoInstance, Range, StepsSpent, NoTimes, NoFormat, OutOfMemory}
+use Rattle.command_types.specs.declared.refusals.Refusal.TheVariants.{NoInstance, Range, StepsSpent, OutOfMemory}
 use Rattle.plan_types.specs.declared.plans.Plan.{Plan}
 use Rattle.vehicle_assignment.specs.declared.faults.AssignmentFault.{AssignmentFault}
-use Rattle.plan_types.specs.declared.limits.TheConstants.{MAX_REQUESTED_STEPS}
+use Rattle.plan_types.specs.declared.limits.TheConstants.{MAX_REQUESTED_STEPS, MAX_STEPS}
 use Rattle.command_text.specs.Answers.{answer_text, at_text, help_text, line, next_text, pin_text}
 use Rattle.command_text.specs.Cutting.{Piece, is_short, pieces_of}
 use Rattle.command_text.specs.Freezing.{freeze_commands}
@@ -36,6 +37,7 @@ use Rattle.command_text.specs.declared.parsed_command.Purpose.{Purpose}
 use Rattle.command_text.specs.declared.parsed_command.Purpose.TheVariants as purpose
 use Rattle.command_text.specs.declared.parsed_command.ParsedCommand.TheVariants.{Nothing, BadLine, BadText, TextRange, Text, Plain, Refused, Steps, Print, PrintInstance, Show, Ask, Next, Help}
 use Rattle.command_text.specs.declared.questions.Question.{Question}
+use Rattle.command_text.specs.declared.steps.TheConstants.{MAX_ANNEAL_PIECE}
 use Rattle.command_text.specs.declared.steps.StepRequest.{StepRequest}
 use Rattle.command_text.specs.declared.steps.StepRequest.TheVariants as goal
 use Rattle.command_text.specs.declared.steps.StepCursor.{StepCursor}
@@ -145,9 +147,9 @@ counts_of most n = replicate (n / most) most ++ (if n % most == 0 then [] else n
 
 -- The operations that make the steps or set the pins that are left, beginning in this state.
 abbrev pub commands_of : StepCursor → State → List Command
-commands_of (makes.Search n) state = map command.Search (counts_of 256 n)
-commands_of (makes.Anneal n) state = map command.Anneal (counts_of 16384 n)
-commands_of (makes.Reduce n) state = map command.Reduce (counts_of 524288 n)
+commands_of (makes.Search n) state = map command.Search (counts_of MAX_SEARCH_STEPS n)
+commands_of (makes.Anneal n) state = map command.Anneal (counts_of MAX_ANNEAL_PIECE n)
+commands_of (makes.Reduce n) state = map command.Reduce (counts_of MAX_REDUCE_STEPS n)
 commands_of (makes.Stages from to) Empty = []
 commands_of (makes.Stages from to) (Loaded j) = stage_commands from to j
 commands_of (makes.InStage from to) Empty = []
@@ -155,26 +157,26 @@ commands_of (makes.InStage from to) (Loaded j) = commands_in_stage from to j
 commands_of (makes.Freeze t v) Empty = []
 commands_of (makes.Freeze t v) (Loaded j) = freeze_commands t v j
 
--- These steps, or `StepsSpent` if n more would be above 2^60 in all.
-abbrev pub unless_spent : JobValue → ℕ → StepCursor → Result StepCursor Refusal
-unless_spent j n steps = if nat_le (j.steps + n) (2 ^ 60) then Ok steps else Err StepsSpent
+-- These steps, or `StepsSpent` if n more would be above `MAX_STEPS` in all.
+abbrev pub unless_spent : JobValue → ℕ → StepCursor → Result StepCursor Answer
+unless_spent j n steps = if nat_le (j.steps + n) MAX_STEPS then Ok steps else Err (answer.Refused StepsSpent)
 
 -- `reach N`: the search steps that are left up to step N, if one command may make that many.
-abbrev pub steps_to_reach : JobValue → ℕ → Result StepCursor Refusal
-steps_to_reach j n = if nat_le n (j.steps + MAX_REQUESTED_STEPS) then Ok (makes.Search (n - j.steps)) else Err Range
+abbrev pub steps_to_reach : JobValue → ℕ → Result StepCursor Answer
+steps_to_reach j n = if nat_le n (j.steps + MAX_REQUESTED_STEPS) then Ok (makes.Search (n - j.steps)) else Err (answer.Refused Range)
 
 -- `anneal FROM TO`: the steps `from..to` that are left, if the job has reached FROM and one command may make
 -- that many.
-abbrev pub steps_in_stages : JobValue → ℕ → ℕ → Result StepCursor Refusal
-steps_in_stages j from to = if nat_le from j.steps && nat_le to (j.steps + MAX_REQUESTED_STEPS) then Ok (makes.Stages from to) else Err Range
+abbrev pub steps_in_stages : JobValue → ℕ → ℕ → Result StepCursor Answer
+steps_in_stages j from to = if nat_le from j.steps && nat_le to (j.steps + MAX_REQUESTED_STEPS) then Ok (makes.Stages from to) else Err (answer.Refused Range)
 
 -- `freeze T`: the pins of all vehicles, or `NoTimes` if the instance has no times.
-abbrev pub steps_to_freeze : Kind → ℕ → Result StepCursor Refusal
+abbrev pub steps_to_freeze : Kind → ℕ → Result StepCursor Answer
 steps_to_freeze LiLim t = Ok (makes.Freeze t 1)
-steps_to_freeze Vrp t = Err NoTimes
+steps_to_freeze Vrp t = Err answer.NoTimes
 
 -- The steps or pins that a command has to make in a job, or its refusal.
-abbrev pub steps_from : JobValue → StepRequest → Result StepCursor Refusal
+abbrev pub steps_from : JobValue → StepRequest → Result StepCursor Answer
 steps_from j (goal.Search n) = unless_spent j n (makes.Search n)
 steps_from j (goal.Anneal n) = unless_spent j n (makes.Anneal n)
 steps_from j (goal.Reduce n) = unless_spent j n (makes.Reduce n)
@@ -183,14 +185,14 @@ steps_from j (goal.Stages from to) = steps_in_stages j from to
 steps_from j (goal.Freeze t) = steps_to_freeze j.problem.kind t
 
 -- The steps or pins that a command has to make, or its refusal; `NoInstance` before the first `load`.
-abbrev pub steps_to_make : State → StepRequest → Result StepCursor Refusal
-steps_to_make Empty g = Err NoInstance
+abbrev pub steps_to_make : State → StepRequest → Result StepCursor Answer
+steps_to_make Empty g = Err (answer.Refused NoInstance)
 steps_to_make (Loaded j) g = steps_from j g
 
 -- The reply to a command that makes these steps or pins, or is refused.
-abbrev pub steps_or_refusal : ServerState → Result StepCursor Refusal → Reply
+abbrev pub steps_or_refusal : ServerState → Result StepCursor Answer → Reply
 steps_or_refusal s (Ok steps) = executed_all s (commands_of steps s.state)
-steps_or_refusal s (Err r) = answered s (answer.Refused r)
+steps_or_refusal s (Err a) = answered s a
 
 -- The reply to a command with a number that its field can't hold: this refusal, or `NoInstance` before the first
 -- `load`.
@@ -217,7 +219,7 @@ print_reply s (Loaded j) =
 -- The reply to `instance`: the problem as an instance, or `no NoFormat` if no format can express it.
 abbrev pub instance_reply : ServerState → State → Reply
 instance_reply s Empty = answered s (answer.Refused NoInstance)
-instance_reply s (Loaded j) = if has_format j.problem then text_then_ok (next_fate s.fates) (after_attempt s) (instance_text j.problem) else answered s (answer.Refused NoFormat)
+instance_reply s (Loaded j) = if has_format j.problem then text_then_ok (next_fate s.fates) (after_attempt s) (instance_text j.problem) else answered s answer.NoFormat
 
 -- The reply to a question: this refusal, or else the text.
 abbrev pub text_unless : Option Refusal → ServerState → List ℕ → Reply

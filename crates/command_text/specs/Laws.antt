@@ -1,8 +1,9 @@
 -- The laws about cutting an input into lines, and about the state after its answers.
-use Rattle.std.specs.Prelude.{◌≡◌, ℕ, ◌<◌, ◌≤◌, ◌^◌, List, [], ◌∷◌, ◌++◌, take, drop, length, if◌then◌else◌}
+use Rattle.std.specs.Prelude.{◌≡◌, ℕ, ◌<◌, ◌≤◌, List, [], ◌∷◌, ◌++◌, take, drop, length, if◌then◌else◌}
 use Rattle.std.specs.Str.Lines.{strip_carriage_return}
 use Rattle.text_lines.specs.Lines.{HasNoLineFeed}
 use Rattle.plan_types.specs.Instance.{Instance, IsInstance}
+use Rattle.plan_types.specs.declared.limits.TheConstants.{MAX_STEPS}
 use Rattle.command_types.specs.Job.{JobValue}
 use Rattle.command_core.specs.Runs.{after}
 use Rattle.command_types.specs.declared.states.State.{State}
@@ -52,13 +53,13 @@ state_after_steps goal state fates = (steps_or_refusal (unbroken_session state f
 -- Law: the command `anneal FROM TO` may be cut short, whatever the fates of its attempts are. If it is then
 -- repeated and no attempt fails, it ends in the same state as without the interruption.
 abbrev pub StagedLinesMayBeCut : Type 0
-StagedLinesMayBeCut = (from to : ℕ) (state : State) (fates : List Fate) → to ≤ 2 ^ 60
+StagedLinesMayBeCut = (from to : ℕ) (state : State) (fates : List Fate) → to ≤ MAX_STEPS
     → state_after_steps (goal.Stages from to) (state_after_steps (goal.Stages from to) state fates) [] ≡ state_after_steps (goal.Stages from to) state []
 
 -- Law: the command `reach N` may be cut short, whatever the fates of its attempts are. If it is then repeated
 -- and no attempt fails, it ends in the same state as without the interruption.
 abbrev pub ReachedLinesMayBeCut : Type 0
-ReachedLinesMayBeCut = (n : ℕ) (state : State) (fates : List Fate) → n ≤ 2 ^ 60
+ReachedLinesMayBeCut = (n : ℕ) (state : State) (fates : List Fate) → n ≤ MAX_STEPS
     → state_after_steps (goal.Reach n) (state_after_steps (goal.Reach n) state fates) [] ≡ state_after_steps (goal.Reach n) state []
 
 -- Law: there is a reading, that is, each text has contents.

@@ -4,6 +4,9 @@ use Rattle.std.specs.Option.{option_and_then, option_map}
 use Rattle.annealing_schedule.specs.Stages.{boundary, hundredths_of, mean_leg_share, stage_of}
 use Rattle.command_core.specs.Effects.{job_after, with_deviation}
 use Rattle.command_types.specs.Job.{JobValue}
+use Rattle.command_types.specs.declared.limits.TheConstants.{MAX_REDUCE_STEPS}
+use Rattle.command_text.specs.declared.staging.TheConstants.{FIRST_HUNDREDTHS}
+use Rattle.command_text.specs.declared.steps.TheConstants.{MAX_ANNEAL_PIECE}
 use Rattle.command_types.specs.declared.commands.Command.{Command}
 use Rattle.command_types.specs.declared.commands.Command.TheVariants.{Anneal, Deviation, Reduce}
 use Rattle.plan_types.specs.declared.requests.Kind.{Kind}
@@ -21,21 +24,21 @@ first_anneal_end from to = from + (halfway from to - from) / 20
 
 -- ---- the next operation after n steps, for the steps `from..to`
 
--- The operation in stage k: annealing up to the end of the stage, with at most 16,384 steps.
+-- The operation in stage k: annealing up to the end of the stage, with at most `MAX_ANNEAL_PIECE` steps.
 abbrev pub stage_piece : ℕ → ℕ → ℕ → ℕ → Command
-stage_piece from to n k = Anneal (min (boundary from to (k + 1) - n) 16384)
+stage_piece from to n k = Anneal (min (boundary from to (k + 1) - n) MAX_ANNEAL_PIECE)
 
 -- The next operation if all steps anneal in stages, or none if step n is not in `from..to`.
 abbrev pub staged_steps : ℕ → ℕ → ℕ → Option Command
 staged_steps from to n = option_map (stage_piece from to n) (stage_of from to n)
 
 -- The next operation if the number of vehicles counts. The first half anneals and then looks for fewer vehicles,
--- with at most 524,288 steps in one operation. The second half anneals in stages.
+-- with at most `MAX_REDUCE_STEPS` steps in one operation. The second half anneals in stages.
 abbrev pub reducing_steps : ℕ → ℕ → ℕ → Option Command
 reducing_steps from to n =
     if nat_lt n from then None else
-    if nat_lt n (first_anneal_end from to) then Some (Anneal (min (first_anneal_end from to - n) 16384)) else
-    if nat_lt n (halfway from to) then Some (Reduce (min (halfway from to - n) 524288)) else staged_steps (halfway from to) to n
+    if nat_lt n (first_anneal_end from to) then Some (Anneal (min (first_anneal_end from to - n) MAX_ANNEAL_PIECE)) else
+    if nat_lt n (halfway from to) then Some (Reduce (min (halfway from to - n) MAX_REDUCE_STEPS)) else staged_steps (halfway from to) to n
 
 -- The operation that makes the next steps, or none if no steps are left.
 abbrev pub steps_due : Kind → ℕ → ℕ → ℕ → Option Command
@@ -54,7 +57,7 @@ staged_hundredths from to n = option_and_then (stage_start_hundredths from to n)
 -- at the start of the first annealing, and that of the stage in the second half.
 abbrev pub reducing_hundredths : ℕ → ℕ → ℕ → Option ℕ
 reducing_hundredths from to n =
-    if nat_lt n (halfway from to) then (if (n == from) && nat_lt n (first_anneal_end from to) then Some 100 else None) else staged_hundredths (halfway from to) to n
+    if nat_lt n (halfway from to) then (if (n == from) && nat_lt n (first_anneal_end from to) then Some FIRST_HUNDREDTHS else None) else staged_hundredths (halfway from to) to n
 
 -- The deviation to set before step n, in hundredths of the mean leg, or none if it stays as it is.
 abbrev pub hundredths_due : Kind → ℕ → ℕ → ℕ → Option ℕ

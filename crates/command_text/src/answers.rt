@@ -2,7 +2,7 @@
 ghost use Rattle.std.specs.Prelude.{◌≡◌, ◌≤◌, ◌+◌, ◌++◌, [], codes, decimal, length};
 ghost use Rattle.instance_read.specs.Names.{kind_name};
 ghost use Rattle.route_sched.specs.Cost.{cost_of};
-ghost use Rattle.command_text.specs.Answers.{at_text, broken_text, cost_text, next_text, no_text, pin_text, read_text, sol_fault_text, unseated_text};
+ghost use Rattle.command_text.specs.Answers.{at_text, broken_text, cost_text, next_text, no_text, pin_text, read_text, sol_fault_text, assignment_fault_text};
 ghost use Rattle.command_text.specs.Answering.{progress_after};
 
 use command_core::{Command, Job, Refusal};
@@ -100,6 +100,10 @@ pub enum Answer {
     AssignmentFault(AssignmentFault),
     /// There are requests in no route, so there is no solution to print.
     Unplanned,
+    /// The instance has no times, so `freeze` can't decide which stops to pin.
+    NoTimes,
+    /// No format can express the requests as they are.
+    NoFormat,
     /// The store can't be written any more.
     Spent,
     /// The device failed in this command.
@@ -121,8 +125,10 @@ impl Answer {
             Answer::Broken => no_line("Broken"),
             Answer::Refused(refusal) => no_line(refusal.name()),
             Answer::Read(fault) => fault_line(*fault),
-            Answer::AssignmentFault(why) => unseated_line(*why),
+            Answer::AssignmentFault(why) => assignment_fault_line(*why),
             Answer::Unplanned => no_line("Unplanned"),
+            Answer::NoTimes => no_line("NoTimes"),
+            Answer::NoFormat => no_line("NoFormat"),
             Answer::Spent => no_line("Spent"),
             Answer::DeviceFault => words("fault device"),
         }
@@ -164,8 +170,8 @@ fn fault_line(fault: ReadFault) -> ShortLine
 }
 
 // Returns the answer to the text of a solution that does not become a plan.
-fn unseated_line(why: AssignmentFault) -> ShortLine
-    ensures { result ≡ unseated_text why }
+fn assignment_fault_line(why: AssignmentFault) -> ShortLine
+    ensures { result ≡ assignment_fault_text why }
 {
     match why {
         AssignmentFault::Sol(fault) => sol_fault_line(fault),

@@ -1,5 +1,6 @@
 //! The answers to `show`, `print` and `instance`.
 ghost use Rattle.std.specs.Prelude.{◌≡◌, ◌<◌, ◌≤◌, ◌*◌, ◌^◌, ◌++◌, [], true, false, IfOk, OnOk, IsErrOf, IsOkUnless, codes, decimal, string_bytes};
+ghost use Rattle.plan_types.specs.declared.limits.TheConstants.{MAX_STEPS};
 ghost use Rattle.route_sched.specs.Cost.{cost_of, unplanned_count};
 ghost use Rattle.instance_text.specs.Formats.{has_format};
 ghost use Rattle.instance_text.specs.Texts.{instance_text};
@@ -154,7 +155,7 @@ impl Text {
     // Appends 16 times this number of steps: the position of the next step's random words. The product may be
     // 2^64.
     fn put_place(&mut self, steps: u64) -> Result<(), OutOfMemory>
-        requires { steps ≤ 2 ^ 60 }
+        requires { steps ≤ MAX_STEPS }
         ensures { OnOk result (self.new ≡ self.old ++ decimal (16 * steps)) }
     {
         let mut buffer = Buffer::new();

@@ -122,7 +122,7 @@ pub fn steps_to_replay<D: Sectors>(alloc: Global, device: &mut D) -> Result<u64,
 
 /// An opened store.
 #[derive(Drop)]
-pub struct Opened<D: Sectors> {
+pub struct OpenedStore<D: Sectors> {
     pub session: Session<D>,
     /// The number of replayed search steps.
     pub replayed: u64,
@@ -137,7 +137,7 @@ impl<D: Sectors> Session<D> {
     /// returned without the refusal. At each moment within the call a crash leaves an image that it might have
     /// left before, and after `Ok` one that recovers to the state. A device of fewer than 802 sectors is
     /// `NotFormatted`, and is not called.
-    pub fn open(alloc: Global, device: D) -> Result<Opened<D>, (StoreFault, D)>
+    pub fn open(alloc: Global, device: D) -> Result<OpenedStore<D>, (StoreFault, D)>
         ensures { MatchResult result
             (λ opened. IsOpened D.Sectors device opened.session opened.replayed)
             (λ refused. IsRefused D.Sectors device refused.1 refused.0) }
@@ -145,7 +145,7 @@ impl<D: Sectors> Session<D> {
         images_hold_at_most_one_state();
         let mut device = device;
         match recover(alloc, &mut device, Version::Two) {
-            Ok(found) => Ok(Opened {
+            Ok(found) => Ok(OpenedStore {
                 session: Session::over(device, found.state, found.place),
                 replayed: found.replayed,
             }),
