@@ -102,7 +102,7 @@ module _ {D : Type 0} (on : sectors.Ghosts D) where
 
   -- The result of opening the store in a file that was made for it at a path.
   abbrev pub IsNewOpening : (List ℕ → D → Type 0) → List ℕ → Result (Opened D) (OpenFailure D) → Type 0
-  IsNewOpening IsNew path opening = IsOpeningOf (IsReadyStore (IsNew path)) (HoldsNoStore (IsNew path)) (IsNotCreatedAt path) opening
+  IsNewOpening IsNew path opening = IsOpeningOf (IsReadyStore (IsNew path)) (HoldsNoStore (IsNew path)) (IsNotCreatedAt (sectors_in version_2) path) opening
 
   -- The store in the file at a path was opened, and `OnOpened` holds for the result; or it was not, and
   -- `OnUnopened` holds for the reason.
