@@ -29,6 +29,7 @@ use Rattle.system_calls.specs.declared.system_call.SystemCall.TheVariants.{
 }
 use Rattle.system_calls.specs.SystemCalls.{RecordedCall, is_memory, answered}
 use Rattle.system_calls.specs.FolderSync.{folder_error, folder_of}
+use Rattle.file_disk.specs.Creation.{Measured, creation_state, is_unsafe}
 
 -- The fault for an error of the system.
 abbrev pub fault_of : ErrorKind → FileFault
@@ -172,18 +173,30 @@ abbrev pub failure_reported : {T : Type 0} → Result T OpeningFault → Option 
 failure_reported (Ok _) = None
 failure_reported (Err refusal) = Some (failure_by refusal.fault refusal.cause)
 
--- No call has failed so far, and the file has this length.
-pub record HasLen (calls : List RecordedCall) (len : ℕ) : Type 0 where
-  pub no_fault : first_failure (answered calls) ≡ None
-  pub length : len_after (answered calls) ≡ Some len
+-- The file was measured under its lock and was `old` bytes long. Nothing that is to be kept was changed since.
+abbrev pub KeepsBytes : ℕ → ℕ → List RecordedCall → Type 0
+KeepsBytes old len calls = creation_state len (answered calls) ≡ Measured old
 
--- A step that sets the file's length and syncs it. It reports its failure, or the file has the length and is
--- synced. It opened no other file.
-pub record IsResized {T : Type 0} (result : Result T OpeningFault) (earlier calls : List RecordedCall) (len : ℕ) : Type 0 where
+-- No call has failed so far. The file was measured under its lock, is `old` bytes long, and gets the length
+-- `len`.
+pub record HasLen (calls : List RecordedCall) (old len : ℕ) : Type 0 where
+  pub no_fault : first_failure (answered calls) ≡ None
+  pub length : len_after (answered calls) ≡ Some old
+  pub kept : KeepsBytes old len calls
+
+-- A step that sets the length of a file that was `old` bytes long. It reports its failure, or the file has the
+-- length. It opened no other file.
+pub record IsResized {T : Type 0} (result : Result T OpeningFault) (earlier calls : List RecordedCall) (old len : ℕ) : Type 0 where
   pub reported : first_failure (answered calls) ≡ failure_reported result
   pub length : IfOk result (λ done. len_after (answered calls) ≡ Some len)
-  pub synced : IfOk result (λ done. IsTrue (is_file_synced (answered calls)))
   pub opened : opened_in calls ≡ opened_in earlier
+  pub kept : KeepsBytes old len calls
+
+-- A step that opens and syncs the folder of the file at this path, and changes no file.
+pub record OpensOnlyFolder (path : List ℕ) (earlier calls : List RecordedCall) : Type 0 where
+  pub length : len_after (answered calls) ≡ len_after (answered earlier)
+  pub opened : opened_in calls ≡ with_folder (folder_of path) (opened_in earlier)
+  pub kept : (old len : ℕ) → KeepsBytes old len earlier → KeepsBytes old len calls
 
 -- ---- the file at a path
 
@@ -235,15 +248,20 @@ IsOpenedReadOnly path calls len = IsOpened Read path calls len
 abbrev pub IsNotOpenedReadOnly : List ℕ → List RecordedCall → Failure → Type 0
 IsNotOpenedReadOnly path calls failure = IsNotOpened Read path calls failure
 
--- The file was opened, and created if there was none, and no other file was opened. Its length was set, and
--- then it and its folder were synced.
+-- The file was opened, and created if there was none, and no other file was opened. Its lock was taken before
+-- it was changed, and it keeps its old bytes up to its new length. Its length was set, and then it and its
+-- folder were synced.
 pub record IsCreated (path : List ℕ) (calls : List RecordedCall) (len : ℕ) : Type 0 where
   pub no_fault : first_failure (answered calls) ≡ None
   pub opened : opened_in calls ≡ record { files = (Create, path) ∷ []; folders = folder_of path ∷ [] }
+  pub old : ℕ
+  pub kept : KeepsBytes old len calls
   pub length : len_after (answered calls) ≡ Some len
   pub synced : IsTrue (is_synced (answered calls))
 
--- The file was not created, because of the failure that the calls report. The calls opened no other file.
-pub record IsNotCreated (path : List ℕ) (calls : List RecordedCall) (failure : Failure) : Type 0 where
+-- The file was not created with this length, because of the failure that the calls report. The calls opened no
+-- other file, changed this one only under its lock, and kept its old bytes up to this length.
+pub record IsNotCreated (path : List ℕ) (calls : List RecordedCall) (len : ℕ) (failure : Failure) : Type 0 where
   pub reported : first_failure (answered calls) ≡ Some failure
   pub files : (opened_in calls).files ≡ (Create, path) ∷ []
+  pub kept : is_unsafe (creation_state len (answered calls)) ≡ false

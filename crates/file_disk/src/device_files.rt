@@ -67,7 +67,7 @@ pub trait DeviceFiles {
         ensures not_too_long { sectors < 2 ^ 54
             → IfErr result (λ refusal. refusal.fault ≢ FileFault.BadLength) }
         ensures reported { sectors < 2 ^ 54 → MatchResult result
-            (IsCreatedAt ⟦<HostFile as FileCalls>⟧.entries path.now) (IsNotCreatedAt path.now) };
+            (IsCreatedAt ⟦<HostFile as FileCalls>⟧.entries path.now) (IsNotCreatedAt sectors path.now) };
 
     /// Returns whether both paths lead to the same file, through any links.
     fn is_same_file(&mut self, one: &str, other: &str) -> bool

@@ -155,7 +155,7 @@ impl<S: FileAssumptions> FileDevice<S> {
         ensures reported { MatchResult result
             (λ device. IsCreated path.now (opening device.file) (512 * sectors))
             (λ refusal. sectors < 2 ^ 54
-            → IsNotCreated path.now (calls_of_open_error refusal)
+            → IsNotCreated path.now (calls_of_open_error refusal) (512 * sectors)
             (failure_by refusal.fault refusal.cause)) }
     {
         let mut noted = SystemCallLog::new();

@@ -113,7 +113,7 @@ module _ {D : Type 0} (on : sectors.Ghosts D) where
   -- The result of opening the store in a file that was made at a path. If the file held no store, it was
   -- formatted first.
   abbrev pub IsNewOpening : (List ℕ → D → Type 0) → List ℕ → Result (OpenedStore D) (OpenFailure D) → Type 0
-  IsNewOpening IsNew path opening = IsOpeningOf (IsReadyStore (IsNew path)) (HoldsNoStore (IsNew path)) (IsNotCreatedAt path) opening
+  IsNewOpening IsNew path opening = IsOpeningOf (IsReadyStore (IsNew path)) (HoldsNoStore (IsNew path)) (IsNotCreatedAt (sectors_in version_2) path) opening
 
   -- The store in the file at a path was opened, and `OnOpened` holds for the result; or it was not, and
   -- `OnUnopened` holds for the reason.

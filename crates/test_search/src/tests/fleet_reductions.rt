@@ -6,6 +6,7 @@ use crate::tests::builders::{Case, FOUR_BY_ONE, TestProblem, case_of, stops_of};
 use fleet_reduction::reduce_fleet;
 use log::sink::Discard;
 use plan_types::Kind;
+use seeded_search::SearchContext;
 use std::alloc::Global;
 use std::test::Fail;
 
@@ -129,16 +130,13 @@ fn tried(alloc: Global, case: &Case, count: u32) -> Result<Option<(Vec<u32>, u64
     if pinned != case.problem.fleet as usize || !case.is_passing(alloc)? {
         return Ok(None);
     }
-    let tried = reduce_fleet(
-        &Discard,
-        alloc,
-        &case.problem,
-        &case.pins,
-        &case.plan,
-        0,
-        0,
-        count,
-    )?;
+    let context = SearchContext {
+        problem: &case.problem,
+        pins: &case.pins,
+        deviation: 0,
+        seed: 0,
+    };
+    let tried = reduce_fleet(&Discard, alloc, &context, &case.plan, 0, count)?;
     let stops = stops_of(alloc, &tried.plan.routes);
     let step = tried.step;
     drop(tried);
