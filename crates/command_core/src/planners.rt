@@ -1,20 +1,22 @@
 //! `Planner`: a state that commands change in place.
-ghost use Rattle.std.specs.Prelude.{◌≡◌, ◌⊎◌, None, Some, IfOk, IfErr, MatchOption};
+ghost use Rattle.std.specs.Prelude.{◌≡◌, ◌⊎◌, None, Some, IfOk, IfErr, IfSome, MatchOption};
 ghost use Rattle.route_sched.specs.Cost.{cost_of};
 ghost use Rattle.command_types.specs.declared.states.State.TheVariants.{Empty, Loaded};
 ghost use Rattle.command_types.specs.States.{IsState};
 ghost use Rattle.command_core.specs.Refusals.{refusal};
 ghost use Rattle.command_core.specs.Changes.{with_change, IsChanged};
+ghost use Rattle.command_core.specs.KeptSearch.{IsSearchStateOf};
 
 use crate::acceptance::check;
 use crate::changes::Change;
 use crate::effects::{CommandOutcome, execute, keep_invariants};
 use crate::laws::commands_keep_invariants;
-use crate::step::incumbent_cost;
 use command_types::{Command, Job, Refusal, State};
 use log::Log;
 use log::sink::Discard;
+use plan_audit::passing_is_local;
 use plan_types::Cost;
+use route_sched::plan_cost;
 use seeded_search::SearchState;
 use std::alloc::Global;
 use std::marker::Model;
@@ -128,4 +130,16 @@ impl Planner {
         self.search_state = None;
         drop(before.swap_into(&mut self.state));
     }
+}
+
+// Returns the cost of the job's incumbent, which a kept search state knows.
+fn incumbent_cost(job: &Job, kept: &Option<SearchState>) -> Cost
+    requires { IfSome kept.now (IsSearchStateOf job.now) }
+    ensures { result ≡ cost_of job.now.problem job.now.plan }
+{
+    if let Some(search_state) = kept {
+        return search_state.best;
+    }
+    passing_is_local();
+    plan_cost(&job.problem, &job.plan)
 }

@@ -1,6 +1,5 @@
 //! `Search` and `Anneal`: steps over a job's plans. The search state is kept from one command to the next.
 ghost use Rattle.std.specs.Prelude.{◌≡◌, ◌+◌, None, IfSome, IfOk, IfErr};
-ghost use Rattle.route_sched.specs.Cost.{cost_of};
 ghost use Rattle.seeded_search.specs.SearchStates.{IsSearchState};
 ghost use Rattle.command_core.specs.KeptSearch.{IsSearchStateOf, IsStepOutcome, with_search_plans, command_for};
 ghost use Rattle.command_core.specs.Effects.{job_after};
@@ -10,9 +9,7 @@ ghost use Rattle.command_types.specs.Commands.{steps_of};
 use crate::changes::JobChange;
 use anneal_search::continue_annealing;
 use command_types::{Job, Refusal};
-use plan_audit::passing_is_local;
-use plan_types::{Cost, OutOfMemory};
-use route_sched::plan_cost;
+use plan_types::OutOfMemory;
 use seeded_search::{Found, SearchState, continue_search};
 use std::alloc::Global;
 
@@ -112,18 +109,6 @@ fn search_state_of(
         Some(search_state) => Ok(search_state),
         None => SearchState::begin(alloc, &job.problem, &job.pins, &job.plan, &job.work),
     }
-}
-
-/// Returns the cost of the job's incumbent. A search state that is kept knows it.
-pub(crate) fn incumbent_cost(job: &Job, kept: &Option<SearchState>) -> Cost
-    requires { IfSome kept.now (IsSearchStateOf job.now) }
-    ensures { result ≡ cost_of job.now.problem job.now.plan }
-{
-    if let Some(search_state) = kept {
-        return search_state.best;
-    }
-    passing_is_local();
-    plan_cost(&job.problem, &job.plan)
 }
 
 // Returns the change of the job to the plans of this search state, with `steps` steps made in all.
