@@ -241,7 +241,7 @@ module _ {D : Type 0} (on : sectors.Ghosts D) (reading : Reading) (old new : Ses
   reports_first : (g : ServerState → Reply) (t : List ℕ) → Reports on old requests_kept t new g → Reports on old (λ s. served reading s (p ∷ ps)) t new (with_rest g)
   reports_first g t l = reports_as old new (with_rest requests_kept) (λ s. served reading s (p ∷ ps)) (with_rest g) t (λ fates. served_first (as_server_state old fates)) (reports_within old requests_kept g t l)
 
-  -- the answers to the steps that are left and to the pieces after them
+  -- the answers to the steps that are left, and to the pieces after them
   rest_is : (later : Option (List Command)) (s : ServerState) → with_rest (still_executed later) s ≡ still reading later ps s
   rest_is None s = refl
   rest_is (Some commands) s = refl
@@ -335,7 +335,7 @@ module _ {D E : Type 0} (on : sectors.Ghosts D) (reading : Reading) (a : ParsedC
       subst (λ r. ContinuesOrIsCut on r reading old (cut_at a rest) x y new known) (sym is)
       (subst (λ qs. IsCutShort on reading old qs x y new) (sym cut) (requested_cut on reading old new (record { requested = a; text = [] }) ps x y answers))
 
--- the cases of the parsed line
+-- a line that parses to `a` and announces no bytes, after which serving continues or ends
 module _ {D E : Type 0} {line a : ParsedCommand} {known : Option (List ℕ)} (on : sectors.Ghosts D) (old new : SessionValue D) (x y : Stream)
     (r : Result Flow ServeFault) (reading : Reading) (rest : List ℕ) (is_line : line ≡ a) (reported : Result ⊤ E) where
   pub line_on : MatchResult reported (λ _. r ≡ Ok Continue) (λ _. r ≡ Err fault.WriteFault) → cut_at a rest ≡ record { requested = a; text = [] } ∷ pieces_of rest → known ≡ Some rest
@@ -489,7 +489,7 @@ input_begun {on = on} reading s input o known is = record
     none_yet [] (x ∷ others) e = absurd cc
     none_yet (x ∷ some) others e = absurd cc
 
--- the next line is cut off from the rest of the input
+-- the next line is separated from the rest of the input
 cut_known : CutLaws → (a : ParsedCommand) (left : List ℕ) (known next : Option (List ℕ)) → known ≡ Some left → Cuts a known next → (rest : List ℕ) × (next ≡ Some rest) × (pieces_of left ≡ cut_at a rest)
 cut_known laws a left known None is cuts = absurd (subst (λ k. Cuts a k None) is cuts)
 cut_known laws a left known (Some rest) is cuts = (rest, refl, cut_pieces laws a left rest (subst (λ k. Cuts a k (Some rest)) is cuts))

@@ -39,7 +39,8 @@ weaker P Q so (Err BadVersion) h = elim h [ ]
 weaker P Q so (Err (Codec _)) h = elim h [ ]
 weaker P Q so (Err Spent) h = elim h [ ]
 
--- the operations that these acts keep are a prefix of those requested, and the headline applies to them
+-- the operations that the acts of serving keep are a prefix of those requested, and the headline applies to their
+-- run
 pub served_headline : {D E : Type 0} (on : sectors.Ghosts D) (again : sectors.Ghosts E) → Headline on again → ServedHeadline on again
 served_headline on again law reading old new input before after_it r m image device left outcome served whole honest moments failed_answer reads settled opens =
     let acts = acts_of on r reading old input before after_it new served in

@@ -251,7 +251,7 @@ counts_on (Some xs) None c m n k p q = absurd p
 counts_on (Some xs) (Some ys) None m n k p q = absurd q
 counts_on (Some xs) (Some ys) (Some zs) m n k p q = omega (arith, p, q)
 
--- `TakesPart` holds for equal arguments, too
+-- `TakesPart` also holds after each argument is replaced by an equal one
 pub part_named : (rest known : Option (List ℕ)) (following following' : List ℕ) (before after after' : PartialLine) (part part' : Part) → following' ≡ following
     → after' ≡ after → part ≡ part' → TakesPart known (prepend_known following rest) before after part
     → TakesPart known (prepend_known following' rest) before after' part'

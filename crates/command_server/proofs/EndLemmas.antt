@@ -64,7 +64,7 @@ turns_let turns more allows = after_turns [] turns more refl allows
 
 module _ {D : Type 0} (on : sectors.Ghosts D) (reading : Reading) (old new : SessionValue D) (input : List ℕ) (before after_it : Stream) (why : FailedAnswer)
     (last : ReportsLast before after_it (Some why)) where
-  -- an input that is served to its end has no line that ends serving
+  -- if the last complete line reports a failure, the input was not served to its end
   none_to_the_end : IsServed on reading old input before after_it new → ⊥
   none_to_the_end served =
       let events : last.events ≡ events_by served.turns = append_cancel_left before.events last.events (events_by served.turns) (sym last.put.noted ∙ served.written.noted) in

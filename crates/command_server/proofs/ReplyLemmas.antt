@@ -76,7 +76,7 @@ when_broken s r e = rw e refl
 pub when_whole : (s : ServerState) (r : Reply) → s.is_broken ≡ false → unless_broken s r ≡ r
 when_whole s r e = rw e refl
 
--- the act of making a text, with or without memory for it; no act without a text
+-- the act of making a text, if one is made: memory for it was available or not
 abbrev pub text_acts : Option Bool → List Act
 text_acts None = []
 text_acts (Some some) = Text some ∷ []
@@ -205,7 +205,7 @@ loaded_err {on = on} old seed fault found e (inr none) =
     let is : fault ≡ out_of_memory = cc in
     subst (λ f. Reports on old (load_reply seed found) (line (answer_text (answer.Read f))) old silent) (sym is) (load_dropped old seed found e)
 
--- the case of a text with a problem
+-- the case of a text that spells a problem
 pub loaded_ok : {D : Type 0} {on : sectors.Ghosts D} (old new : SessionValue D) (p : Instance) (seed : ℕ) (text : List ℕ) (found : Result Instance ReadFault)
     → old.is_broken ≡ false → IsUnlessOutOfMemory (Ok p) found
     → Reports on old (λ s. plain s (command.Load p seed)) text new silent → Reports on old (load_reply seed found) text new silent
@@ -320,7 +320,7 @@ by_refusal j q r e t = ap (λ o. text_unless o t (question_text j q)) e
 pub sayable_is : (j : JobValue) → has_format j.problem ≡ true → (t : ServerState) → instance_reply t (Loaded j) ≡ text_then_ok (next_fate t.fates) (after_attempt t) (instance_text j.problem)
 sayable_is j e t = rw e refl
 
-pub unsayable_is : (j : JobValue) → has_format j.problem ≡ false → (t : ServerState) → instance_reply t (Loaded j) ≡ answered t (answer.Refused core.NoFormat)
+pub unsayable_is : (j : JobValue) → has_format j.problem ≡ false → (t : ServerState) → instance_reply t (Loaded j) ≡ answered t answer.NoFormat
 unsayable_is j e t = rw e refl
 
 -- if the text was made or memory ran out, the format can express the problem; if the result is `NoFormat`, it

@@ -39,7 +39,7 @@ use Rattle.command_text.specs.declared.answers.Progress.{Progress}
 use Rattle.command_text.specs.declared.steps.StepRequest.{StepRequest}
 use Rattle.command_text.specs.declared.steps.StepCursor.{StepCursor}
 use Rattle.command_text.specs.declared.answers.Answer.TheVariants as answer
-use Rattle.recover.specs.Applying.{IsAnswer, HasFailedDevice, IsDone, spent}
+use Rattle.recover.specs.Applying.{IsAnswer, HasFailedDevice, IsDone, spent_denial}
 use Rattle.recover.specs.Sessions.{SessionValue}
 use Rattle.recover.specs.declared.denials.Denial.{Denial}
 use Rattle.recover.specs.declared.denials.Denial.TheVariants.{Broken, Core, DeviceFault, OutOfMemory, Spent}
@@ -292,7 +292,7 @@ module _ {D : Type 0} (on : sectors.Ghosts D) (old new : SessionValue D) (comman
   -- if the operation was executed, its reply continues
   pub carried_on : (done : ServerState → Reply) (x : Unit {0}) → IsAppliedOn on old command (answers_so (Ok x) n) new → Reports on old (λ s. executed s command done) [] new done
   carried_on done x applied =
-      let free = not_denied old new command old.is_broken (refusal old.state command) (spent old.place command) x applied.answer in
+      let free = not_denied old new command old.is_broken (refusal old.state command) (spent_denial old.place command) x applied.answer in
       let says : (later : List Fate) → executed (as_server_state old (Done ∷ later)) command done ≡ preceded [] (command ∷ []) (done (as_server_state new later)) =
       λ later. carried_tried (as_server_state old (Done ∷ later)) command done free.0 free.1 ∙ ap (λ s. with_command command (done s)) (done_is old new command applied.makes free.0 later) in
       record {
@@ -381,7 +381,7 @@ module _ {D : Type 0} (on : sectors.Ghosts D) (old new : SessionValue D) (comman
           }) applied
 
       off : (b : Bool) → old.is_broken ≡ b → (r : Option Refusal) → refusal old.state command ≡ r → (d : Denial)
-          → IsAnswer {T = Unit {0}} (first_cause b r (spent old.place command)) (Err d) → IsAppliedOn on old command (answers_so (Err d) n) new
+          → IsAnswer {T = Unit {0}} (first_cause b r (spent_denial old.place command)) (Err d) → IsAppliedOn on old command (answers_so (Err d) n) new
           → Reports on old (λ s. executed s command done) (line (answer_text (answer_to_denial d))) new silent
       off true e r f' d h applied =
           let is : d ≡ Broken = cc in
@@ -494,8 +494,8 @@ by_goal goal s = unless_broken s (steps_or_refusal s (steps_to_make s.state goal
 goal_broken : (goal : StepRequest) (s : ServerState) → s.is_broken ≡ true → by_goal goal s ≡ answered s answer.Broken
 goal_broken goal s e = rw e refl
 
-goal_refused : (goal : StepRequest) (s : ServerState) (r : Refusal) → s.is_broken ≡ false → steps_to_make s.state goal ≡ Err r → by_goal goal s ≡ answered s (answer.Refused r)
-goal_refused goal s r e f = rw (e, f) refl
+goal_refused : (goal : StepRequest) (s : ServerState) (a : Answer) → s.is_broken ≡ false → steps_to_make s.state goal ≡ Err a → by_goal goal s ≡ answered s a
+goal_refused goal s a e f = rw (e, f) refl
 
 goal_begun : (goal : StepRequest) (s : ServerState) (steps : StepCursor) → s.is_broken ≡ false → steps_to_make s.state goal ≡ Ok steps → by_goal goal s ≡ executed_all s (commands_of steps s.state)
 goal_begun goal s steps e f = rw (e, f) refl
@@ -503,9 +503,9 @@ goal_begun goal s steps e f = rw (e, f) refl
 pub steps_broken : {D : Type 0} {on : sectors.Ghosts D} (goal : StepRequest) (s : SessionValue D) → s.is_broken ≡ true → Reports on s (by_goal goal) (line (answer_text answer.Broken)) s silent
 steps_broken goal s e = reports_same s (by_goal goal) answer.Broken (λ fates. goal_broken goal (as_server_state s fates) e)
 
-pub steps_refused : {D : Type 0} {on : sectors.Ghosts D} (goal : StepRequest) (s : SessionValue D) (r : Refusal) → s.is_broken ≡ false → steps_to_make s.state goal ≡ Err r
-    → Reports on s (by_goal goal) (line (answer_text (answer.Refused r))) s silent
-steps_refused goal s r e f = reports_same s (by_goal goal) (answer.Refused r) (λ fates. goal_refused goal (as_server_state s fates) r e f)
+pub steps_refused : {D : Type 0} {on : sectors.Ghosts D} (goal : StepRequest) (s : SessionValue D) (a : Answer) → s.is_broken ≡ false → steps_to_make s.state goal ≡ Err a
+    → Reports on s (by_goal goal) (line (answer_text a)) s silent
+steps_refused goal s a e f = reports_same s (by_goal goal) a (λ fates. goal_refused goal (as_server_state s fates) a e f)
 
 pub steps_begun : {D T E : Type 0} (on : sectors.Ghosts D) (reported : Result T E) (goal : StepRequest) (s new : SessionValue D) (steps : StepCursor) (o y : Stream)
     → s.is_broken ≡ false → steps_to_make s.state goal ≡ Ok steps

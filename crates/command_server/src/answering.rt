@@ -31,7 +31,7 @@ use sector_disk::Sectors;
 use sol_text::WriteSolFault;
 use std::alloc::Global;
 
-/// The reason why serving ended before the input did.
+/// The reason why serving ended before the input was answered.
 #[derive(Clone, Copy, Debug, PartialEq, Eq)]
 pub enum ServeFault {
     /// The input can't be read, or is too long.
@@ -62,7 +62,7 @@ impl From<IoFault> for ServeFault {
     }
 }
 
-/// Whether serving continues.
+/// The decision whether serving continues after a command.
 #[derive(Clone, Copy)]
 enum Flow {
     Continue,
@@ -73,11 +73,11 @@ enum Flow {
 /// or `adopt` command that is malformed, out of range, or not followed by all its bytes, since the next command
 /// could not be found. Reading lines takes no memory.
 ///
-/// `ok` and `at` are written after the last sync of what they acknowledge. Each attempt to use fewer vehicles
-/// is logged when it ends. If the whole input is served, the output is the answer to it, and the session has
-/// executed exactly the operations that the answer reports, up to a failed device. If the bytes of the reader
-/// are known beforehand, they are the input. Otherwise every text that begins with the bytes that the reads
-/// returned counts as the input (`IsInputOf`). `serve` takes any reader and writer.
+/// `ok` and `at` are written after the last sync of what they acknowledge. Each attempt to use fewer vehicles is
+/// logged when it ends. If the whole input is served, the output is the answer to it, and the session has
+/// executed exactly the operations that the answer reports as executed. If the bytes of the reader are known
+/// beforehand, they are the input. Otherwise every text that begins with the bytes that the reads returned counts
+/// as the input (`IsInputOf`). `serve` takes any reader and writer.
 ///
 /// # Errors
 ///
@@ -248,7 +248,7 @@ fn put_line<D: Sectors, W: Sink>(
     flush_unlogged(session, writer)
 }
 
-// Flushes everything written. The flush is not recorded.
+// Flushes everything written. Contracts see it as writing the empty text and flushing.
 #[tactic(auto, using(crate::proofs::StreamLemmas::hands_nothing))]
 fn flush_unlogged<D: Sectors, W: Sink>(session: &Session<D>, writer: &mut W) -> Result<(), IoFault>
     ensures reported { WritesAndFlushes (W.stream writer.old) (W.stream writer.new) result
@@ -320,7 +320,7 @@ fn write_line_and_ok<D: Sectors, W: Sink>(
     write_text_and_ok(session, writer, b"\n")
 }
 
-// Executes the operation and logs a hint for people beside its answer.
+// Executes the operation. If there is something to explain about its answer, logs a hint for people.
 fn applied_with_hint<L: Log, D: Sectors>(
     rt: &L,
     alloc: Global,
@@ -488,7 +488,7 @@ fn bytes_answer<L: Log, D: Sectors>(
     }
 }
 
-// Reads the instance and starts over with it.
+// Reads the instance and loads it, which replaces the session's instance and plan.
 fn loaded<L: Log, D: Sectors>(
     rt: &L,
     alloc: Global,
@@ -552,7 +552,7 @@ fn serve_steps<L: Log, D: Sectors, W: Sink>(
     }
     match steps_to_make(session.state(), goal) {
         Ok(steps) => make_steps(rt, alloc, session, writer, steps),
-        Err(refusal) => write_answer(session, writer, Answer::Refused(refusal)),
+        Err(answer) => write_answer(session, writer, answer),
     }
 }
 
@@ -582,7 +582,7 @@ fn make_steps<L: Log, D: Sectors, W: Sink>(
     write_answer(session, writer, Answer::Ok)
 }
 
-// Writes the line after an operation of a command that takes several.
+// Writes the progress line after an operation of a command that consists of several operations.
 fn write_progress<D: Sectors, W: Sink>(
     session: &Session<D>,
     writer: &mut W,
@@ -602,7 +602,7 @@ fn write_progress<D: Sectors, W: Sink>(
     }
 }
 
-// Writes the steps so far.
+// Writes the line `at ..` with the number of steps so far and the cost.
 fn write_at_line<D: Sectors, W: Sink>(session: &Session<D>, writer: &mut W) -> Result<(), IoFault>
     ensures reported { WritesAndFlushes (W.stream writer.old) (W.stream writer.new) result
         (D.calls session.now.device) (at_line session.now.state) }
@@ -634,7 +634,7 @@ fn instance_reply<D: Sectors>(alloc: Global, session: &Session<D>) -> Result<Tex
     let job = job_of(session)?;
     match print_instance(alloc, job) {
         Ok(text) => Ok(text),
-        Err(instance_text::WriteFault::NoFormat) => Err(Answer::Refused(Refusal::NoFormat)),
+        Err(instance_text::WriteFault::NoFormat) => Err(Answer::NoFormat),
         Err(instance_text::WriteFault::OutOfMemory) => {
             Err(Answer::Refused(Refusal::OutOfMemory))
         }

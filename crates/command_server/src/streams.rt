@@ -26,8 +26,8 @@ pub trait Source {
     // The bytes still to come, if they are known.
     ghost remaining: { Self → Option (List ℕ) };
 
-    // Whether a text is possible as the input: it begins with all bytes that the calls returned, and has no
-    // others if a call has returned nothing.
+    // Whether this text may be the input: it begins with all bytes that the calls returned, and has no others if
+    // a call has returned nothing.
     ghost gave: { Self → List ℕ → Type 0 };
 
     // The part of such a text that was not returned yet.
@@ -59,7 +59,7 @@ pub trait Sink {
     // The properties that no call changes.
     ghost origin: { Self → Origin };
 
-    /// Writes a text. If a call fails, a prefix of it is written.
+    /// Writes a text. If a call fails, a prefix of the text is written.
     fn put<D: Sectors>(&mut self, session: &Session<D>, text: &[u8]) -> Result<(), IoFault>
         ensures puts { Puts (stream self.old) (stream self.new) result
             (D.calls session.now.device) text.now }
@@ -192,9 +192,9 @@ impl<W: Write> FailureTracking<W> {
     }
 }
 
-/// Repeats a call that a signal interrupts, and records the result of each read with room. After a read that
-/// returned nothing, no more calls are made, since a terminal may return bytes after its end. So the bytes that
-/// the reads returned are the input, whatever the reader is.
+/// Repeats a call that a signal interrupts, and records the bytes of each read into a block that is not empty.
+/// After a read that returned nothing, no more calls are made, since a terminal may return bytes after its end.
+/// So the bytes that the reads returned are the input, whatever the reader is.
 impl<R: Read> Source for FailureTracking<R> {
     ghost use Rattle.command_server.specs.TrackedStream.{still_known};
 
@@ -355,7 +355,7 @@ pub fn write_text<W: Write>(writer: &mut W, text: &[u8]) -> Result<(), usize>
     Ok(())
 }
 
-// Writes some bytes of a text that is not empty. Returns `None` if the writer fails.
+// Writes some bytes of a text that is not empty, and returns their number, or `None` if the writer fails.
 fn write_once<W: Write>(writer: &mut W, text: &[u8]) -> Option<usize>
     ensures { WritesSome (W.contents writer.old) (W.contents writer.new) result text.now }
 {

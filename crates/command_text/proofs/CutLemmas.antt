@@ -38,11 +38,11 @@ first_is (b ∷ bs) some =
     let n = announced (requested_first text) in
     ap (λ ps. first_piece text ∷ (if ends (first_piece text) then [] else ps)) (skip (line_len text + n) bs ∙ ap (λ k. pieces_of (drop k text)) (sym (one_more (line_len text) n)))
 
-module _ (text line rest : List ℕ) (len : ℕ) (front : take len text ≡ line) (following : drop (len + 1) text ≡ rest) (further : (n : ℕ) → drop (len + 1 + n) text ≡ drop n rest) where
+module _ (text line rest : List ℕ) (len : ℕ) (prefix : take len text ≡ line) (following : drop (len + 1) text ≡ rest) (further : (n : ℕ) → drop (len + 1 + n) text ≡ drop n rest) where
   by_parts : cut_by len text ≡ cut_at (requested (strip_carriage_return line)) rest
   by_parts =
       let a = requested (strip_carriage_return line) in
-      ap (λ l. let a' = requested (strip_carriage_return l) in let p = piece_at a' (drop (len + 1) text) in p ∷ (if ends p then [] else pieces_of (drop (len + 1 + announced a') text))) front
+      ap (λ l. let a' = requested (strip_carriage_return l) in let p = piece_at a' (drop (len + 1) text) in p ∷ (if ends p then [] else pieces_of (drop (len + 1 + announced a') text))) prefix
       ∙ ap (λ r. piece_at a r ∷ (if ends (piece_at a r) then [] else pieces_of (drop (len + 1 + announced a) text))) following
       ∙ ap (λ r. piece_at a rest ∷ (if ends (piece_at a rest) then [] else pieces_of r)) (further (announced a))
 

@@ -1,5 +1,5 @@
--- `anneal FROM TO`, cut off by any fate of an attempt and repeated, ends in the same state as an uninterrupted
--- one.
+-- If `anneal FROM TO` is cut off, whatever the fates of its attempts are, and then repeated, it ends in the same
+-- state as without the interruption.
 use Rattle.std.proofs.Common.{
   ◌≡◌,
   ◌∙◌,
@@ -50,6 +50,7 @@ use Rattle.command_types.specs.declared.commands.Command.{Command}
 use Rattle.command_types.specs.declared.commands.Command.TheVariants.{Deviation}
 use Rattle.command_types.specs.declared.refusals.Refusal.{Refusal}
 use Rattle.command_types.specs.declared.refusals.Refusal.TheVariants.{Range}
+use Rattle.command_text.specs.declared.answers.Answer.TheVariants as answer
 use Rattle.command_types.specs.declared.states.State.{State}
 use Rattle.command_types.specs.declared.states.State.TheVariants.{Empty, Loaded}
 use Rattle.command_core.proofs.NumberLemmas.{steps_counted}
@@ -80,8 +81,9 @@ use Rattle.command_text.specs.declared.steps.StepCursor.TheVariants as makes
 use Rattle.command_text.specs.Staging.{hundredths_due, made_by, making, next_deviation, next_steps, set_before, stage_commands, staged_within}
 use Rattle.command_text.proofs.StagingLemmas.{due, no_load, none_is, some_is, stages_may_be_cut}
 
--- ---- the executed operations are a prefix
+-- ---- the executed operations are a prefix of the operations
 
+-- the state `left` follows from the given state by the first `count` operations
 pub record IsCutAt (steps_to_freeze : State) (commands : List Command) (left : State) : Type 0 where
   pub count : ℕ
   pub is : left ≡ after steps_to_freeze (take count commands)
@@ -134,6 +136,7 @@ all_whole s (c ∷ cs) accepted =
 abbrev pub stays : Command → Bool
 stays c = not (changes_requests c)
 
+-- the state `left` has a job that has made at least as many steps as j
 record GoesOn (j : JobValue) (left : State) : Type 0 where
   pub job : JobValue
   pub is : left ≡ Loaded job
@@ -174,6 +177,7 @@ free_deviation j (Some c) d is =
 module _ (from to : ℕ) where
   -- ---- all later operations are accepted and change no request
 
+  -- the operations are accepted if `to` is at most 2^60, and change no request
   record AreFit (j : JobValue) (cs : List Command) : Type 0 where
     pub accepted : to ≤ 2 ^ 60 → AreAccepted (Loaded j) cs
     pub stay : list_all stays cs ≡ true
@@ -216,10 +220,10 @@ module _ (from to : ℕ) where
   is_requested j = nat_le from j.steps && nat_le to (j.steps + MAX_REQUESTED_STEPS)
 
   not_begun : (j : JobValue) (fates : List Fate) → is_requested j ≡ false → left_by (unbroken_session (Loaded j) fates) ≡ Loaded j
-  not_begun j fates e = ap (λ b. (steps_or_refusal (unbroken_session (Loaded j) fates) (if b then Ok (makes.Stages from to) else Err Range)).left.state) e
+  not_begun j fates e = ap (λ b. (steps_or_refusal (unbroken_session (Loaded j) fates) (if b then Ok (makes.Stages from to) else Err (answer.Refused Range))).left.state) e
 
   is_begun : (j : JobValue) (fates : List Fate) → is_requested j ≡ true → left_by (unbroken_session (Loaded j) fates) ≡ (executed_all (unbroken_session (Loaded j) fates) (stage_commands from to j)).left.state
-  is_begun j fates e = ap (λ b. (steps_or_refusal (unbroken_session (Loaded j) fates) (if b then Ok (makes.Stages from to) else Err Range)).left.state) e
+  is_begun j fates e = ap (λ b. (steps_or_refusal (unbroken_session (Loaded j) fates) (if b then Ok (makes.Stages from to) else Err (answer.Refused Range))).left.state) e
 
   pub uncut : to ≤ 2 ^ 60 → (j : JobValue) → is_requested j ≡ true → left_by (unbroken_session (Loaded j) []) ≡ after (Loaded j) (stage_commands from to j)
   uncut room j e = is_begun j [] e ∙ all_whole (Loaded j) (stage_commands from to j) (stages_accepted room j)

@@ -1,4 +1,4 @@
--- The session ends in the state after the executed operations.
+-- The session ends in the state after the operations that it has executed.
 use Rattle.std.proofs.Common.{◌≡◌, ◌∙◌, ℕ, Bool, true, false, if◌then◌else◌, List, [], ◌∷◌, ◌++◌, Option, Some, None, Result, Ok, Err, refl, sym, ap, ◌==◌}
 use Rattle.plan_types.specs.Instance.{Instance}
 use Rattle.route_sched.specs.Cost.{unplanned_count}
@@ -57,12 +57,12 @@ use Rattle.command_text.specs.Questions.{question_refusal, question_text}
 use Rattle.command_text.specs.Readings.{Reading}
 use Rattle.instance_text.specs.Formats.{has_format}
 use Rattle.instance_text.specs.Texts.{instance_text}
-use Rattle.command_types.specs.declared.refusals.Refusal.TheVariants.{NoFormat}
 use Rattle.plan_types.specs.declared.plans.Plan.{Plan}
 use Rattle.vehicle_assignment.specs.declared.faults.AssignmentFault.{AssignmentFault}
 use Rattle.command_text.specs.declared.parsed_command.Purpose.{Purpose}
 use Rattle.command_text.specs.declared.parsed_command.Purpose.TheVariants as purpose
 use Rattle.command_text.specs.Showing.{print_text, show_text}
+use Rattle.command_text.specs.declared.answers.Answer.{Answer}
 use Rattle.command_text.specs.declared.answers.Answer.TheVariants as answer
 use Rattle.command_text.specs.declared.parsed_command.ParsedCommand.{ParsedCommand}
 use Rattle.command_text.specs.declared.questions.Question.{Question}
@@ -95,38 +95,38 @@ unfolding executed_all
 carries_all s [] = refl
 carries_all s (c ∷ cs) = carries s c (λ t. with_text (printed_after c t.state) (executed_all t cs)) (λ t. carries_all t cs)
 
-makes_or : (s : ServerState) (steps : Result StepCursor Refusal) → Follows s (steps_or_refusal s steps)
+makes_or : (s : ServerState) (steps : Result StepCursor Answer) → Follows s (steps_or_refusal s steps)
 makes_or s (Ok steps) = carries_all s (commands_of steps s.state)
 makes_or s (Err r) = refl
 
-tells : (fate : Fate) (s : ServerState) (text : List ℕ) → Follows s (text_then_ok fate s text)
-tells Done s text = refl
-tells NoMemory s text = refl
-tells Spent s text = refl
-tells Failed s text = refl
+text_follows : (fate : Fate) (s : ServerState) (text : List ℕ) → Follows s (text_then_ok fate s text)
+text_follows Done s text = refl
+text_follows NoMemory s text = refl
+text_follows Spent s text = refl
+text_follows Failed s text = refl
 
 shows : (s : ServerState) (state : State) → Follows s (show_reply s state)
 shows s Empty = refl
-shows s (Loaded j) = tells (next_fate s.fates) (after_attempt s) (show_text j)
+shows s (Loaded j) = text_follows (next_fate s.fates) (after_attempt s) (show_text j)
 
 prints : (s : ServerState) (state : State) → Follows s (print_reply s state)
 prints s Empty = refl
 prints s (Loaded j) =
-    one_of (unplanned_count j.problem j.plan == 0) s (text_then_ok (next_fate s.fates) (after_attempt s) (print_text j)) (answered s answer.Unplanned) (tells (next_fate s.fates) (after_attempt s) (print_text j)) refl
+    one_of (unplanned_count j.problem j.plan == 0) s (text_then_ok (next_fate s.fates) (after_attempt s) (print_text j)) (answered s answer.Unplanned) (text_follows (next_fate s.fates) (after_attempt s) (print_text j)) refl
 
-tells_instance : (s : ServerState) (state : State) → Follows s (instance_reply s state)
-tells_instance s Empty = refl
-tells_instance s (Loaded j) =
-    one_of (has_format j.problem) s (text_then_ok (next_fate s.fates) (after_attempt s) (instance_text j.problem)) (answered s (answer.Refused NoFormat))
-    (tells (next_fate s.fates) (after_attempt s) (instance_text j.problem)) refl
+instance_follows : (s : ServerState) (state : State) → Follows s (instance_reply s state)
+instance_follows s Empty = refl
+instance_follows s (Loaded j) =
+    one_of (has_format j.problem) s (text_then_ok (next_fate s.fates) (after_attempt s) (instance_text j.problem)) (answered s answer.NoFormat)
+    (text_follows (next_fate s.fates) (after_attempt s) (instance_text j.problem)) refl
 
-tells_unless : (r : Option Refusal) (s : ServerState) (text : List ℕ) → Follows s (text_unless r s text)
-tells_unless (Some r) s text = refl
-tells_unless None s text = tells (next_fate s.fates) (after_attempt s) text
+text_unless_follows : (r : Option Refusal) (s : ServerState) (text : List ℕ) → Follows s (text_unless r s text)
+text_unless_follows (Some r) s text = refl
+text_unless_follows None s text = text_follows (next_fate s.fates) (after_attempt s) text
 
 informs : (q : Question) (s : ServerState) (state : State) → Follows s (question_reply q s state)
 informs q s Empty = refl
-informs q s (Loaded j) = tells_unless (question_refusal j q) s (question_text j q)
+informs q s (Loaded j) = text_unless_follows (question_refusal j q) s (question_text j q)
 
 states_next : (s : ServerState) (state : State) → Follows s (next_reply s state)
 states_next s Empty = refl
@@ -183,7 +183,7 @@ answers reading s (Plain c) text short = carries s c (λ t. answered t answer.Ok
 answers reading s (Refused r) text short = unbroken s (refused s s.state r) (refuses s s.state r)
 answers reading s (Steps g) text short = unbroken s (steps_or_refusal s (steps_to_make s.state g)) (makes_or s (steps_to_make s.state g))
 answers reading s Print text short = unbroken s (print_reply s s.state) (prints s s.state)
-answers reading s PrintInstance text short = unbroken s (instance_reply s s.state) (tells_instance s s.state)
+answers reading s PrintInstance text short = unbroken s (instance_reply s s.state) (instance_follows s s.state)
 answers reading s Show text short = unbroken s (show_reply s s.state) (shows s s.state)
 answers reading s (Ask q) text short = unbroken s (question_reply q s s.state) (informs q s s.state)
 answers reading s Next text short = unbroken s (next_reply s s.state) (states_next s s.state)

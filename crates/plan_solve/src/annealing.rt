@@ -24,7 +24,8 @@ struct ProgressState {
     parts: u128,
 }
 
-/// Anneals by stages for this many steps. If vehicles count, attempts to use fewer vehicles come first.
+/// Makes this many steps of annealing by stages. If vehicles count, the first half of the steps looks for plans
+/// with fewer vehicles.
 pub(crate) fn anneal_with_progress<W: Write>(
     alloc: Global,
     begun: Job,

@@ -7,7 +7,7 @@ use command_core::{Change, Command, Job, Planner, Refusal, State};
 use plan_types::OutOfMemory;
 use std::alloc::{AllocError, Global};
 
-/// Executes an operation.
+/// Executes an operation, or fails if memory runs out.
 pub(crate) fn execute(
     alloc: Global,
     planner: &mut Planner,
@@ -28,7 +28,7 @@ fn out_of_memory_if_refused(changed: Result<Change, Refusal>) -> Result<(), OutO
     }
 }
 
-/// Returns the job of a planner that has loaded one.
+/// Returns the planner's job. A planner without a job, which does not occur here, counts as out of memory.
 pub(crate) fn job_of(planner: &Planner) -> Result<&Job, OutOfMemory>
     ensures { IfOk result (λ job. planner.now ≡ Loaded job.now) }
 {
@@ -38,7 +38,7 @@ pub(crate) fn job_of(planner: &Planner) -> Result<&Job, OutOfMemory>
     }
 }
 
-/// Returns the planner's job if the steps succeeded.
+/// Returns the planner's job if its operations succeeded.
 pub(crate) fn final_job(planner: Planner, made: Result<(), OutOfMemory>) -> Result<Job, OutOfMemory>
     ensures { IfOk result (λ job. (planner ≡ Loaded job) × IfErr made (λ _. ⊥)) }
 {
@@ -48,7 +48,7 @@ pub(crate) fn final_job(planner: Planner, made: Result<(), OutOfMemory>) -> Resu
     }
 }
 
-/// Consumes the planner and returns its job.
+/// Consumes the planner and returns its job, like `job_of`.
 pub(crate) fn into_job(planner: Planner) -> Result<Job, OutOfMemory>
     ensures { IfOk result (λ job. planner ≡ Loaded job) }
 {

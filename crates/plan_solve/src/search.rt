@@ -1,4 +1,4 @@
-//! The search, with a progress line before its steps and at each twentieth of them.
+//! The search, with a progress line before its first step and after each twentieth of the steps.
 ghost use Rattle.std.specs.Prelude.{◌≡◌, IfOk, OnOk};
 ghost use Rattle.command_core.specs.Effects.{effect, searched};
 ghost use Rattle.plan_solve.specs.Solved.{marks, search_lines, searched_with};
@@ -15,7 +15,7 @@ use plan_types::OutOfMemory;
 use std::alloc::Global;
 use std::io::Write;
 
-/// Makes this many steps of the search with this deviation, in the unit of distance.
+/// Makes this many steps of the search with this deviation, which is in the unit of distance.
 pub(crate) fn search_with_progress<W: Write>(
     alloc: Global,
     begun: Job,
@@ -77,7 +77,7 @@ fn search_parts<W: Write>(
     Ok(is_written)
 }
 
-// Makes this many more steps of the search, in operations of at most 256.
+// Makes this many more steps of the search, at most 256 in one operation.
 fn search(alloc: Global, planner: &mut Planner, steps: u32) -> Result<(), OutOfMemory>
     ensures { OnOk result (planner.new ≡ effect planner.old (Command.Search steps)) }
 {

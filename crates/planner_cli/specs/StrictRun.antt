@@ -12,8 +12,8 @@ use Rattle.recover.specs.Sessions.{SessionValue}
 use Rattle.sector_disk.specs.declared.sectors.Sectors as sectors
 
 module _ {D : Type 0} (on : sectors.Ghosts D) where
-  -- Law: if a strict run ended at an answer and its output had not failed, the acts by which its input was
-  -- served end at that answer.
+  -- Law: if a strict run ended at an answer and its output had not failed, nothing was executed after the command
+  -- that this answer reports.
   abbrev pub StrictRunsEnd : Type 0
   StrictRunsEnd = (old new : SessionValue D) (is_strict : Bool) (given : InputRecord) (opened answered : Stream) (served : Result ⊤ ServeFault) (why : FailedAnswer)
       (reader_failed writer_failed : Bool) (input : List ℕ) (reading : Reading)

@@ -35,7 +35,7 @@ impl<T> ErrorCapture<T> {
     }
 }
 
-/// Forwards each call.
+/// Forwards each call, and keeps the error of a failed one.
 impl<R: Read> Read for ErrorCapture<R> {
     ghost remaining = { λ r. R.remaining r.inner };
 
@@ -51,7 +51,7 @@ impl<R: Read> Read for ErrorCapture<R> {
     }
 }
 
-/// Forwards each call.
+/// Forwards each call, and keeps the error of a failed one.
 impl<W: Write> Write for ErrorCapture<W> {
     ghost contents = { λ w. W.contents w.inner };
 

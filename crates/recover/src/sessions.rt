@@ -207,7 +207,7 @@ impl<D: Sectors> Session<D> {
     /// device is opened again.
     pub fn is_broken(&self) -> bool
         ensures broken { result ≡ self.now.is_broken }
-        ensures stands { result ≡ false → D.honest self.now.device → (image : List ℕ)
+        ensures recovers { result ≡ false → D.honest self.now.device → (image : List ℕ)
             → D.possible self.now.device image → RecoversTo Two image self.now.state }
     {
         self.is_broken
@@ -216,7 +216,7 @@ impl<D: Sectors> Session<D> {
     /// Returns the device.
     pub fn close(self) -> D
         ensures device { result ≡ self.device }
-        ensures stands { self.is_broken ≡ false → D.honest result → (image : List ℕ)
+        ensures recovers { self.is_broken ≡ false → D.honest result → (image : List ℕ)
             → D.possible result image → RecoversTo Two image self.state }
     {
         self.device

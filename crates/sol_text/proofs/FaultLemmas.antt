@@ -1,5 +1,5 @@
 -- Reading returns the first fault, or the solution that the lines spell.
-use Rattle.std.proofs.Common.{◌≡◌, ℕ, Bool, true, false, not, ◌&&◌, ◌||◌, cond, eqb, List, [], ◌∷◌, map, Option, Some, None, Result, Ok, Err, inl, inr, refl, sym, ap}
+use Rattle.std.proofs.Common.{◌≡◌, ◌⊎◌, ℕ, Bool, true, false, not, ◌&&◌, ◌||◌, cond, eqb, List, [], ◌∷◌, map, Option, Some, None, Result, Ok, Err, inl, inr, refl, sym, ap}
 use Rattle.std.specs.Prelude.{is_some, is_none, unwrap_or, codes}
 use Rattle.std.specs.Char.{to_ascii_lowercase}
 use Rattle.std.specs.List.{list_any, list_all}
@@ -14,7 +14,7 @@ use Rattle.sol_text.specs.declared.faults.SolFault.{SolFault}
 use Rattle.sol_text.specs.declared.faults.SolFaultKind.{SolFaultKind}
 use Rattle.sol_text.specs.declared.faults.SolFaultKind.TheVariants.{BadLine, BadNumber, NoCost, OutOfMemory}
 use Rattle.sol_text.specs.declared.lines.Line.{Line}
-use Rattle.sol_text.specs.declared.lines.Line.TheVariants.{Blank, Route, Cost}
+use Rattle.sol_text.specs.declared.lines.Line.TheVariants.{Skipped, Route, Cost}
 
 -- ---- a line has only one shape
 -- a text that begins with this letter, in either case
@@ -81,63 +81,105 @@ customers_say (w ∷ ws) = one (customer_of w) _ _ (customers_of ws) (customers_
 abbrev pub bad : Bool → Option (List ℕ) → Option (List ℕ) → Bool
 bad blank tail word = not blank && not (is_some tail) && not (is_some word)
 
+abbrev pub bad_customer : Option (List ℕ) → Bool
+bad_customer tail = option_map_or (list_any (λ w. is_none (customer_of w))) (option_map words_of tail) false
+
+abbrev pub bad_cost : Option (List ℕ) → Bool
+bad_cost word = option_map_or (λ w. is_none (cost_of w)) word false
+
 abbrev pub bad_number : Option (List ℕ) → Option (List ℕ) → Bool
-bad_number tail word =
-    cond (is_some tail) (option_map_or (list_any (λ w. is_none (customer_of w))) (option_map words_of tail) false)
-    (option_map_or (λ w. is_none (cost_of w)) word false)
+bad_number tail word = cond (is_some tail) (bad_customer tail) (bad_cost word)
 
 abbrev pub routed : Option (List ℕ) → Option (List ℕ)
 routed tail = option_map (map (λ w. unwrap_or (customer_of w) 0)) (option_map words_of tail)
 
-abbrev pub IsOfKind : Bool → Option (List ℕ) → Option (List ℕ) → SolFaultKind → Type 0
-IsOfKind blank tail word BadLine = bad blank tail word ≡ true
-IsOfKind blank tail word BadNumber = bad_number tail word ≡ true
-IsOfKind blank tail word NoCost = ⊥
-IsOfKind blank tail word OutOfMemory = ⊥
+abbrev pub IsOfKind : Bool → Bool → Option (List ℕ) → Option (List ℕ) → SolFaultKind → Type 0
+IsOfKind in_head blank tail word BadLine = (bad blank tail word ≡ true) × (in_head ≡ false)
+IsOfKind in_head blank tail word BadNumber = bad_customer tail ≡ true
+IsOfKind in_head blank tail word NoCost = ⊥
+IsOfKind in_head blank tail word OutOfMemory = ⊥
 
--- a line without a fault, and its route if it is a route line
-pub record Harmless (blank : Bool) (tail word : Option (List ℕ)) (route : Option (List ℕ)) : Type 0 where
+-- a line that is no cost line and has no fault, and its route if it is a route line
+pub record Harmless (in_head blank : Bool) (tail word : Option (List ℕ)) (route : Option (List ℕ)) : Type 0 where
   pub no_cost : is_some word ≡ false
-  pub shape : bad blank tail word ≡ false
-  pub numbers : bad_number tail word ≡ false
+  pub shape : bad blank tail word ≡ true → in_head ≡ true
+  pub numbers : bad_customer tail ≡ false
   pub route_is : routed tail ≡ route
 
-pub record Ending (blank : Bool) (tail word : Option (List ℕ)) (cost : ℕ) : Type 0 where
+-- the cost of a word, or its fault
+abbrev pub CostSays : ℕ → Option (List ℕ) → Result ℕ SolFault → Type 0
+CostSays n word (Ok c) = (bad_cost word ≡ false) × (option_and_then cost_of word ≡ Some c)
+CostSays n word (Err f) = (bad_cost word ≡ true) × (f ≡ record { line = n; kind = BadNumber })
+
+pub record Ending (n : ℕ) (blank : Bool) (tail word : Option (List ℕ)) (cost : Result ℕ SolFault) : Type 0 where
   pub is_cost : is_some word ≡ true
   pub shape : bad blank tail word ≡ false
-  pub numbers : bad_number tail word ≡ false
-  pub cost_is : option_and_then cost_of word ≡ Some cost
+  pub numbers : bad_customer tail ≡ false
+  pub cost_is : CostSays n word cost
 
-abbrev pub LineSays : ℕ → Bool → Option (List ℕ) → Option (List ℕ) → Result Line SolFault → Type 0
-LineSays n blank tail word (Ok Blank) = Harmless blank tail word None
-LineSays n blank tail word (Ok (Route r)) = Harmless blank tail word (Some r)
-LineSays n blank tail word (Ok (Cost c)) = Ending blank tail word c
-LineSays n blank tail word (Err f) = (f.line ≡ n) × IsOfKind blank tail word f.kind
+abbrev pub LineSays : Bool → ℕ → Bool → Option (List ℕ) → Option (List ℕ) → Result Line SolFault → Type 0
+LineSays in_head n blank tail word (Ok Skipped) = Harmless in_head blank tail word None
+LineSays in_head n blank tail word (Ok (Route r)) = Harmless in_head blank tail word (Some r)
+LineSays in_head n blank tail word (Ok (Cost c)) = Ending n blank tail word c
+LineSays in_head n blank tail word (Err f) = (f.line ≡ n) × IsOfKind in_head blank tail word f.kind
 
-line_says : (n : ℕ) (blank : Bool) (tail word : Option (List ℕ)) → (blank ≡ true → (tail ≡ None) × (word ≡ None)) → (is_some tail ≡ true → word ≡ None)
-    → LineSays n blank tail word (cond blank (Ok Blank) (nonblank_line n tail word))
-line_says n true tail word empty apart = rw ((empty refl).0, (empty refl).1) (record { no_cost = refl; shape = refl; numbers = refl; route_is = refl })
-line_says n false None None empty apart = (refl, refl)
-line_says n false None (Some w) empty apart = by_cost (cost_of w) refl
+line_says : (in_head : Bool) (n : ℕ) (blank : Bool) (tail word : Option (List ℕ)) → (blank ≡ true → (tail ≡ None) × (word ≡ None)) → (is_some tail ≡ true → word ≡ None)
+    → LineSays in_head n blank tail word (cond blank (Ok Skipped) (nonblank_line in_head n tail word))
+line_says in_head n true tail word empty apart =
+    rw ((empty refl).0, (empty refl).1) (record { no_cost = refl; shape = λ is. absurd (false≢true is); numbers = refl; route_is = refl })
+line_says true n false None None empty apart = record { no_cost = refl; shape = λ is. refl; numbers = refl; route_is = refl }
+line_says false n false None None empty apart = (refl, (refl, refl))
+line_says in_head n false None (Some w) empty apart = record { is_cost = refl; shape = refl; numbers = refl; cost_is = by_cost (cost_of w) refl }
   where
-    by_cost : (o : Option ℕ) → cost_of w ≡ o → LineSays n false None (Some w) (or_bad_number Cost n o)
-    by_cost None is = (refl, rw is refl)
-    by_cost (Some c) is = record { is_cost = refl; shape = refl; numbers = rw is refl; cost_is = is }
-line_says n false (Some tail) (Some w) empty apart = absurd (none_some (sym (apart refl)))
-line_says n false (Some tail) None empty apart = by_customers (customers_of (words_of tail)) (customers_say (words_of tail))
+    by_cost : (o : Option ℕ) → cost_of w ≡ o → CostSays n (Some w) (or_bad_number (λ c. c) n o)
+    by_cost None is = (rw is refl, refl)
+    by_cost (Some c) is = (rw is refl, is)
+line_says in_head n false (Some tail) (Some w) empty apart = absurd (none_some (sym (apart refl)))
+line_says in_head n false (Some tail) None empty apart = by_customers (customers_of (words_of tail)) (customers_say (words_of tail))
   where
     by_customers : (q : Option (List ℕ))
         → Say (list_any (λ w. is_none (customer_of w)) (words_of tail)) (map (λ w. unwrap_or (customer_of w) 0) (words_of tail)) q
-        → LineSays n false (Some tail) None (or_bad_number Route n q)
+        → LineSays in_head n false (Some tail) None (or_bad_number Route n q)
     by_customers None say = (refl, say)
-    by_customers (Some ns) say = record { no_cost = refl; shape = refl; numbers = say.0; route_is = ap Some say.1 }
+    by_customers (Some ns) say = record { no_cost = refl; shape = λ is. absurd (false≢true is); numbers = say.0; route_is = ap Some say.1 }
 
-abbrev pub SaysOf : ℕ → List ℕ → Result Line SolFault → Type 0
-SaysOf n line r = LineSays n (is_blank_line line) (route_tail line) (cost_word line) r
+abbrev pub SaysOf : Bool → ℕ → List ℕ → Result Line SolFault → Type 0
+SaysOf in_head n line r = LineSays in_head n (is_blank_line line) (route_tail line) (cost_word line) r
 
-pub line_of_says : (n : ℕ) (line : List ℕ) → SaysOf n line (line_of n line)
+pub no_word_of_route : (line : List ℕ) → is_some (route_tail line) ≡ true → cost_word line ≡ None
+no_word_of_route line route = cost_word_none line (cost_tail_of_route line route)
+
+pub line_of_says : (in_head : Bool) (n : ℕ) (line : List ℕ) → SaysOf in_head n line (line_of in_head n line)
 unfolding line_of
-line_of_says n line =
-    line_says n (is_blank_line line) (route_tail line) (cost_word line)
-    (λ blank. (route_tail_of_blank line blank, cost_word_none line (cost_tail_of_blank line blank)))
-    (λ route. cost_word_none line (cost_tail_of_route line route))
+line_of_says in_head n line =
+    line_says in_head n (is_blank_line line) (route_tail line) (cost_word line)
+    (λ blank. (route_tail_of_blank line blank, cost_word_none line (cost_tail_of_blank line blank))) (no_word_of_route line)
+
+-- ---- a fault of a number is one of the route or of the cost
+pub number_from_customer : (tail word : Option (List ℕ)) → bad_customer tail ≡ true → bad_number tail word ≡ true
+number_from_customer None word is = absurd (false≢true is)
+number_from_customer (Some tail) word is = is
+
+pub number_from_cost : (tail word : Option (List ℕ)) → (is_some tail ≡ true → word ≡ None) → bad_cost word ≡ true → bad_number tail word ≡ true
+number_from_cost None word apart is = is
+number_from_cost (Some tail) word apart is = absurd (false≢true (rw (apart refl) at is))
+
+pub number_split : (tail word : Option (List ℕ)) → bad_number tail word ≡ true → (bad_customer tail ≡ true) ⊎ (bad_cost word ≡ true)
+number_split None word is = inr is
+number_split (Some tail) word is = inl is
+
+pub not_both_numbers : (tail word : Option (List ℕ)) → (is_some tail ≡ true → word ≡ None) → bad_customer tail ≡ true → bad_cost word ≡ true → ⊥
+not_both_numbers None word apart customer cost = false≢true customer
+not_both_numbers (Some tail) word apart customer cost = false≢true (rw (apart refl) at cost)
+
+pub is_cost_of_bad : (word : Option (List ℕ)) → bad_cost word ≡ true → is_some word ≡ true
+is_cost_of_bad None is = is
+is_cost_of_bad (Some word) is = refl
+
+pub no_route_from : (tail : Option (List ℕ)) → routed tail ≡ None → is_some tail ≡ false
+no_route_from None is = refl
+no_route_from (Some tail) is = absurd (none_some (sym is))
+
+pub route_from : (tail : Option (List ℕ)) (r : List ℕ) → routed tail ≡ Some r → is_some tail ≡ true
+route_from None r is = absurd (none_some is)
+route_from (Some tail) r is = refl

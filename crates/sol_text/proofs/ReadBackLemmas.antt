@@ -14,7 +14,7 @@ use Rattle.text_lines.specs.Numbers.{DecimalsParseBack, is_digits}
 use Rattle.text_lines.proofs.PrefixLemmas.{digit_no_blank}
 use Rattle.sol_text.specs.LineShapes.{route_tail, cost_word}
 use Rattle.sol_text.specs.Values.{customer_of, cost_of}
-use Rattle.sol_text.specs.Reading.{customers_of, line_of, prepend_line, reading, with_routes}
+use Rattle.sol_text.specs.Reading.{customers_of, line_of, prepend_line, reading, solution_of, with_routes}
 use Rattle.sol_text.specs.Laws.{begins_with_colon}
 use Rattle.sol_text.proofs.ShapeLemmas.{all_digits, cost_word_from_line, route_tail_from_line}
 use Rattle.route_sched.specs.Cost.{used_routes}
@@ -167,7 +167,7 @@ module _ (ended : LinesEndAtFeeds) (made_of : (line : List ℕ) (words : List (L
   customers-written (n ∷ route) small = rw (customer-written n small.0, customers-written route small.1) refl
 
   line_of-route : (k number : ℕ) (route : List ℕ) → number < 2 ^ 64 → AllByRecursion (λ n. n < 2 ^ 32) route
-      → line_of k (route_text number route) ≡ Ok (Route route)
+      → line_of false k (route_text number route) ≡ Ok (Route route)
   unfolding line_of
   line_of-route k number route fits small =
       rw (route_shown number route, route_tail-written number route fits, words-written route small, customers-written route small) refl
@@ -198,7 +198,7 @@ module _ (ended : LinesEndAtFeeds) (made_of : (line : List ℕ) (words : List (L
   unfolding cost_of
   cost-written cost fits = rw ((read cost fits).2, lt-ltb cost (2 ^ 64) fits) refl
 
-  line_of-cost : (k cost : ℕ) → cost < 2 ^ 64 → line_of k (cost_text cost) ≡ Ok (Cost cost)
+  line_of-cost : (k cost : ℕ) → cost < 2 ^ 64 → line_of false k (cost_text cost) ≡ Ok (Cost (Ok cost))
   unfolding line_of
   line_of-cost k cost fits = rw (cost_shown cost, no_route cost, cost_word-written cost fits, cost-written cost fits) refl
 
@@ -229,19 +229,19 @@ module _ (ended : LinesEndAtFeeds) (made_of : (line : List ℕ) (words : List (L
 
   -- the text of some routes and a cost reads back as these routes and this cost
   reading-written : (k number : ℕ) (routes : List (List ℕ)) (cost : ℕ) → number + length routes < 2 ^ 64 → AreSmall routes → cost < 2 ^ 64
-      → reading k (lines_of (routes_text number routes ++ (cost_text cost ++ 10 ∷ []))) ≡ Ok (record { routes = routes; cost = cost })
+      → reading false k (lines_of (routes_text number routes ++ (cost_text cost ++ 10 ∷ []))) ≡ Ok (record { routes = routes; cost = Ok cost })
   unfolding reading
   reading-written k number [] cost few small fits =
-      ap (λ ls. reading k ls) (line_ends (cost_text cost) [] (cost_printable cost fits))
-      ∙ ap (λ l. prepend_line l (reading (k + 1) (lines_of []))) (line_of-cost (k + 1) cost fits)
+      ap (λ ls. reading false k ls) (line_ends (cost_text cost) [] (cost_printable cost fits))
+      ∙ ap (λ l. prepend_line l false (λ still. reading still (k + 1) (lines_of []))) (line_of-cost (k + 1) cost fits)
   reading-written k number (route ∷ routes) cost few small fits =
       let later = routes_text (number + 1) routes ++ (cost_text cost ++ 10 ∷ []) in
       let small_number : number < 2 ^ 64 = omega arith in
-      ap (λ t. reading k (lines_of t)) (append_assoc (route_text number route) (10 ∷ routes_text (number + 1) routes) (cost_text cost ++ 10 ∷ []))
-      ∙ (ap (λ ls. reading k ls) (line_ends (route_text number route) later (route_printable number route small_number small.0))
-      ∙ (ap (λ l. prepend_line l (reading (k + 1) (lines_of later))) (line_of-route (k + 1) number route small_number small.0)
+      ap (λ t. reading false k (lines_of t)) (append_assoc (route_text number route) (10 ∷ routes_text (number + 1) routes) (cost_text cost ++ 10 ∷ []))
+      ∙ (ap (λ ls. reading false k ls) (line_ends (route_text number route) later (route_printable number route small_number small.0))
+      ∙ (ap (λ l. prepend_line l false (λ still. reading still (k + 1) (lines_of later))) (line_of-route (k + 1) number route small_number small.0)
       ∙ ap (λ r. with_routes (route ∷ []) r) (reading-written (k + 1) (number + 1) routes cost (omega arith) small.1 fits)))
 
   pub reads_back : (routes : List (List ℕ)) (cost : ℕ) → 1 + length routes < 2 ^ 64 → AreSmall routes → cost < 2 ^ 64
-      → reading 0 (lines_of (solution_text routes cost)) ≡ Ok (record { routes = routes; cost = cost })
-  reads_back routes cost few small fits = reading-written 0 1 routes cost few small fits
+      → solution_of (reading false 0 (lines_of (solution_text routes cost))) ≡ Ok (record { routes = routes; cost = cost })
+  reads_back routes cost few small fits = ap solution_of (reading-written 0 1 routes cost few small fits)

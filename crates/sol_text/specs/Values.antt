@@ -22,7 +22,10 @@ route_in_line line = option_map (map (λ word. unwrap_or (customer_of word) 0)) 
 abbrev pub first_cost : List (List ℕ) → ℕ
 first_cost lines = unwrap_or (option_and_then cost_of (option_and_then cost_word (find is_cost_line lines))) 0
 
--- the solution that a text without faults spells: the routes of the lines before the first cost line, in order,
--- and its cost
+-- the routes of the lines before the first cost line, or of all lines if there is none, in order
+abbrev pub routes_in_lines : List (List ℕ) → List (List ℕ)
+routes_in_lines lines = filter_map route_in_line (before_first is_cost_line lines)
+
+-- the solution that a text without faults spells
 abbrev pub solution_in_lines : List (List ℕ) → Solution
-solution_in_lines lines = record { routes = filter_map route_in_line (before_first is_cost_line lines); cost = first_cost lines }
+solution_in_lines lines = record { routes = routes_in_lines lines; cost = first_cost lines }

@@ -20,24 +20,31 @@ use text_lines::{
 /// The meaning of a line.
 #[derive(Drop)]
 pub(crate) enum Line {
-    Blank,
+    /// A blank line, or a line of a head.
+    Skipped,
     /// The customers in order.
     Route(Route),
-    /// The distance that the author of the solution claims.
-    Cost(u64),
+    /// The distance that the author of the solution claims, or the fault of its word.
+    Cost(Result<u64, SolFault>),
 }
 
-/// Parses the line with this number. A fault names the number.
+/// Parses the line with this number. A fault names the number. In a head, a line that is neither a route line nor
+/// a cost line is skipped.
 #[tactic(auto, unfolding(crate::specs::Reading::line_of))]
-pub(crate) fn parse_line(alloc: Global, number: u64, line: &[u8]) -> Result<Line, SolFault>
-    ensures { Returns result (line_of number line.now) }
+pub(crate) fn parse_line(
+    alloc: Global,
+    in_head: bool,
+    number: u64,
+    line: &[u8],
+) -> Result<Line, SolFault>
+    ensures { Returns result (line_of in_head number line.now) }
 {
     if is_blank_line(line) {
-        return Ok(Line::Blank);
+        return Ok(Line::Skipped);
     }
     match route_tail(line) {
         Some(tail) => read_route(alloc, number, tail),
-        None => read_cost(number, line),
+        None => read_cost(in_head, number, line),
     }
 }
 
@@ -56,19 +63,21 @@ fn read_route(alloc: Global, number: u64, tail: &[u8]) -> Result<Line, SolFault>
     Ok(Line::Route(Route::from(customers)))
 }
 
-// Parses a line that is neither blank nor a route line, and so must be a cost line.
-fn read_cost(number: u64, line: &[u8]) -> Result<Line, SolFault>
-    ensures { Returns result (cost_line number (cost_word line.now)) }
+// Parses a line that is neither blank nor a route line. Outside a head it must be a cost line.
+fn read_cost(in_head: bool, number: u64, line: &[u8]) -> Result<Line, SolFault>
+    ensures { Returns result (cost_line in_head number (cost_word line.now)) }
 {
-    let word = cost_word(line).ok_or(SolFault {
-        line: number,
-        kind: SolFaultKind::BadLine,
-    })?;
-    let cost = cost_of(word).ok_or(SolFault {
-        line: number,
-        kind: SolFaultKind::BadNumber,
-    })?;
-    Ok(Line::Cost(cost))
+    match cost_word(line) {
+        Some(word) => Ok(Line::Cost(cost_of(word).ok_or(SolFault {
+            line: number,
+            kind: SolFaultKind::BadNumber,
+        }))),
+        None if in_head => Ok(Line::Skipped),
+        None => Err(SolFault {
+            line: number,
+            kind: SolFaultKind::BadLine,
+        }),
+    }
 }
 
 #[tactic(auto, unfolding(crate::specs::Values::customer_of))]

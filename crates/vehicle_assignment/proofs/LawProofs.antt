@@ -7,7 +7,7 @@ use Rattle.text_lines.specs.Lines.{lines_of}
 use Rattle.text_lines.specs.Words.{is_blank_line}
 use Rattle.sol_text.specs.Faults.{FaultInLines, IsFirstFault, has_bad_number, is_bad_line, line_at}
 use Rattle.sol_text.specs.LineShapes.{cost_word, route_tail}
-use Rattle.sol_text.specs.Reading.{reading}
+use Rattle.sol_text.specs.Reading.{reading, solution_of}
 use Rattle.sol_text.specs.declared.faults.SolFault.{SolFault}
 use Rattle.sol_text.specs.declared.faults.SolFaultKind.{SolFaultKind}
 use Rattle.sol_text.specs.declared.faults.SolFaultKind.TheVariants as sol
@@ -49,7 +49,7 @@ module _ (law : SubjectsHaveVerdicts) (p : Instance) (pins : List (List ℕ)) wh
     is_found_by s (verdict.Pass cost) audited = seats_are s cost audited (assigned_plan p.fleet pins s.routes) refl
     is_found_by s (verdict.Broken rule route place stop) audited = (s, audited)
 
-    is_found : IsInstance p → (r : Result Solution SolFault) → reading 0 (lines_of text) ≡ r → IsFound p pins text (by_reading r)
+    is_found : IsInstance p → (r : Result Solution SolFault) → solution_of (reading false 0 (lines_of text)) ≡ r → IsFound p pins text (by_reading r)
     unfolding by_reading
     is_found valid (Ok s) is =
         is_found_by s (law.0 p (printed s.routes s.cost)) (spells_from_reported text s is, law.1 p (printed s.routes s.cost) valid)
@@ -57,8 +57,8 @@ module _ (law : SubjectsHaveVerdicts) (p : Instance) (pins : List (List ℕ)) wh
 
 pub some_seating : SubjectsHaveVerdicts → AssignmentFunctionExists
 some_seating law = (
-  (λ p pins text. by_reading law p pins (reading 0 (lines_of text))),
-  (λ p pins text valid. is_found law p pins text valid (reading 0 (lines_of text)) refl),
+  (λ p pins text. by_reading law p pins (solution_of (reading false 0 (lines_of text)))),
+  (λ p pins text valid. is_found law p pins text valid (solution_of (reading false 0 (lines_of text))) refl),
 )
 
 -- ---- there is no other answer

@@ -1,5 +1,5 @@
 -- After each operation the remaining ones lead to the result. After the last operation all progress lines are
--- written
+-- written.
 use Rattle.std.proofs.Common.{rules, ◌≡◌, [], ◌∷◌, refl, subst}
 use Rattle.command_core.specs.Effects.{effect}
 use Rattle.command_text.specs.Answering.{commands_of}

@@ -1,4 +1,5 @@
--- Each part of the search continues from the last mark. After the last part all progress lines are written
+-- Each part of the search continues from the steps of the last line. After the last part all progress lines are
+-- written.
 use Rattle.std.proofs.Common.{◌≡◌, ◌∙◌, ◌+◌, ◌-◌, ◌<◌, ◌≤◌, ap, subst, sym}
 use Rattle.command_core.specs.Effects.{effect}
 use Rattle.command_types.specs.declared.commands.Command.TheVariants.{Search}

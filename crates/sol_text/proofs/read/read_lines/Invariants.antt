@@ -8,5 +8,5 @@ use Rattle.sol_text.proofs.read.read_lines.Given as goal
 abbrev pub invariant-loop-line : goal.invariant-loop-line
 invariant-loop-line l = record {
   few : l.number + length l.line-iterator ≤ length l.text;
-  said : reading 0 (lines_of l.text) ≡ with_routes l.routes.items (reading l.number l.line-iterator);
+  said : reading l.skips_head 0 (lines_of l.text) ≡ with_routes l.routes.items (reading l.in_head l.number l.line-iterator);
 }
