@@ -7,9 +7,9 @@ ghost use Rattle.auditor_cli.specs.Reads.{FileRead, FileWrite};
 use crate::file_record::{FileRecord, Outcome};
 use std::fs::{File, OpenOptions};
 use std::io::{BufRead, BufReader, ErrorKind, Write};
-use std::path::Path;
 use std::rt::Files;
 use std::{fs, io};
+use system_calls::{SystemCallLog, sync_folder_of};
 
 /// A reader of files by path, each completely or line by line. It records each read with its result.
 pub trait ReadFiles {
@@ -221,7 +221,7 @@ fn open_new<R: Files<File = File>>(rt: &R, path: &str) -> io::Result<File> {
 fn write_new_file<R: Files<File = File>>(rt: &R, path: &str, text: &[u8]) -> io::Result<()> {
     let mut file = open_new(rt, path)?;
     let written = match write_whole(&mut file, text) {
-        Ok(()) => sync_folder(rt, path),
+        Ok(()) => sync_folder_of(rt, path, &mut SystemCallLog::new()),
         failed => failed,
     };
     if written.is_err() {
@@ -233,16 +233,4 @@ fn write_new_file<R: Files<File = File>>(rt: &R, path: &str, text: &[u8]) -> io:
 fn write_whole(file: &mut File, text: &[u8]) -> io::Result<()> {
     file.write_all(text)?;
     file.sync_all()
-}
-
-// Syncs the folder of the file, so that the file's name is on the disk. Some file systems can't sync a folder.
-fn sync_folder<R: Files<File = File>>(rt: &R, path: &str) -> io::Result<()> {
-    let folder = match Path::new(path).parent() {
-        Some(folder) if !folder.as_str().is_empty() => folder.as_str(),
-        _ => ".",
-    };
-    match File::open(rt, folder)?.sync_all() {
-        Err(error) if error.kind() == ErrorKind::InvalidInput => Ok(()),
-        synced => synced,
-    }
 }

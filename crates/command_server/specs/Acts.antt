@@ -3,7 +3,7 @@ use Rattle.std.specs.Prelude.{◌≡◌, ◌≤◌, ℕ, Bool, true, false, List
 use Rattle.std.specs.List.{AllByRecursion, concat}
 use Rattle.command_types.specs.declared.commands.Command.{Command}
 use Rattle.command_text.specs.Answering.{Fate, Done, NoMemory, Spent, Failed}
-use Rattle.recover.specs.Replies.{kept}
+use Rattle.recover.specs.Replies.{kept_commands}
 use Rattle.recover.specs.declared.denials.Denial.{Denial}
 use Rattle.recover.specs.declared.denials.Denial.TheVariants as denial
 use Rattle.recover.specs.declared.replies.Reply.{Reply}
@@ -75,7 +75,7 @@ executed_of acts = flat_map executed_in acts
 
 -- The executed operations, followed by the one during which the device failed, if there is one.
 abbrev pub kept_of : List Act → List Command
-kept_of acts = kept (commands_of acts) (replies_of acts)
+kept_of acts = kept_commands (commands_of acts) (replies_of acts)
 
 -- The fate that an attempt would have had if the device had not failed.
 abbrev pub without_failure : Fate → Fate

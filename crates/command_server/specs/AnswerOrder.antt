@@ -1,10 +1,10 @@
 -- The order of answers and operations: an answer is written only after what it reports.
 use Rattle.std.specs.Prelude.{◌≡◌, ◌≤◌, ℕ, List, ◌++◌, length, Result, ⊤}
 use Rattle.std.specs.List.{AllByRecursion}
-use Rattle.command_text.specs.Answering.{Fate, served}
+use Rattle.command_text.specs.Answering.{Fate, pieces_reply}
 use Rattle.command_text.specs.Cutting.{pieces_of}
 use Rattle.command_text.specs.Readings.{Reading}
-use Rattle.recover.specs.Replies.{acked}
+use Rattle.recover.specs.Replies.{acknowledged_count}
 use Rattle.recover.specs.Sessions.{SessionValue}
 use Rattle.sector_disk.specs.declared.sectors.Sectors as sectors
 use Rattle.command_server.specs.Acts.{Act, IsPrefixOf, executed_of, fates_of, replies_of}
@@ -24,9 +24,9 @@ calls_at (Flushed calls) = calls
 pub record ReportsAcknowledged {D : Type 0} (reading : Reading) (old : SessionValue D) (input : List ℕ) (acts : List Act) (m : ℕ) (text : List ℕ) : Type 0 where
   pub first : List Act
   pub begins : IsPrefixOf first acts
-  pub reports : (later : List Fate) → Begins text first (served reading (as_server_state old (fates_of first ++ later)) (pieces_of input))
+  pub reports : (later : List Fate) → Begins text first (pieces_reply reading (as_server_state old (fates_of first ++ later)) (pieces_of input))
   pub requested : IsPrefixOf (executed_of first) (requested_by reading old (pieces_of input) acts)
-  pub acknowledged : length (executed_of first) ≤ acked m (replies_of acts)
+  pub acknowledged : length (executed_of first) ≤ acknowledged_count m (replies_of acts)
 
 module _ {D : Type 0} (on : sectors.Ghosts D) where
   -- Law: for each prefix of the events at the sink, while at most m calls had finished, the text that was written

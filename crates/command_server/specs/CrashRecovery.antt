@@ -6,7 +6,7 @@
 use Rattle.std.specs.Prelude.{◌≡◌, ℕ, false, List, ◌++◌, Result, Ok, Err, ⊤}
 use Rattle.command_types.specs.declared.commands.Command.{Command}
 use Rattle.command_types.specs.declared.states.State.{State}
-use Rattle.command_text.specs.Answering.{Fate, served}
+use Rattle.command_text.specs.Answering.{Fate, pieces_reply}
 use Rattle.command_text.specs.Cutting.{Piece, pieces_of}
 use Rattle.command_text.specs.Readings.{Reading}
 use Rattle.checkpoint.specs.declared.faults.StoreFault.{StoreFault}
@@ -14,7 +14,7 @@ use Rattle.recover.specs.Headline.{OpensToImageState, IsRecovered}
 use Rattle.recover.specs.Composition.{IsRunOn}
 use Rattle.recover.specs.Moments.{RunLeaves}
 use Rattle.recover.specs.Opening.{ReturnsUnlessFailed}
-use Rattle.recover.specs.Replies.{acked}
+use Rattle.recover.specs.Replies.{acknowledged_count}
 use Rattle.recover.specs.Sessions.{SessionValue}
 use Rattle.recover.specs.declared.replies.Reply.{Reply}
 use Rattle.sector_disk.specs.Sectors.{Throughout}
@@ -26,7 +26,7 @@ use Rattle.command_server.specs.declared.answering.ServeFault.{ServeFault}
 
 -- The operations that an input requests if its attempts have these fates, in order.
 abbrev pub requested_commands : {D : Type 0} → Reading → SessionValue D → List Piece → List Fate → List Command
-requested_commands reading session pieces fates = (served reading (as_server_state session fates) pieces).commands
+requested_commands reading session pieces fates = (pieces_reply reading (as_server_state session fates) pieces).commands
 
 -- The operations that an input requests if its attempts have the fates of these acts, but the device never fails.
 abbrev pub requested_by : {D : Type 0} → Reading → SessionValue D → List Piece → List Act → List Command
@@ -38,7 +38,7 @@ requested_by reading session pieces acts = requested_commands reading session pi
 abbrev pub RecoversPrefixOf : {D : Type 0} → Reading → SessionValue D → List ℕ → List Act → ℕ → Result State StoreFault → Type 0
 RecoversPrefixOf reading old input acts m outcome =
     IsPrefixOf (kept_of acts) (requested_by reading old (pieces_of input) acts)
-    × ReturnsUnlessFailed (IsRecovered old.state (kept_of acts) (acked m (replies_of acts))) outcome
+    × ReturnsUnlessFailed (IsRecovered old.state (kept_of acts) (acknowledged_count m (replies_of acts))) outcome
 
 module _ {D : Type 0} (on : sectors.Ghosts D) where
   -- At each moment from old to new, each crash image recovers to the state after a prefix of the kept
@@ -58,7 +58,7 @@ module _ {D : Type 0} (on : sectors.Ghosts D) where
   -- and the input requests all operations that the run keeps.
   pub record IsRunOfInput (reading : Reading) (old : SessionValue D) (input : List ℕ) (acts : List Act) (new : SessionValue D) : Type 0 where
     pub run : IsRunOn on old (commands_of acts) (replies_of acts) new
-    pub requested : AreRequested old (λ s. served reading s (pieces_of input)) acts
+    pub requested : AreRequested old (λ s. pieces_reply reading s (pieces_of input)) acts
     pub requests_kept : IsPrefixOf (kept_of acts) (requested_by reading old (pieces_of input) acts)
 
   -- Law: the acts of serving an input are a run of that input.

@@ -48,14 +48,14 @@ rest_after reads text = drop (length (text_given reads)) text
 
 -- The knowledge about an input between two moments: its bytes, if they were known beforehand, and the results of
 -- the reads up to the first moment and up to the second, the newest first.
-pub record Given : Type 0 where
+pub record InputRecord : Type 0 where
   pub known : Option (List ℕ)
   pub before : List (List ℕ)
   pub after : List (List ℕ)
 
 -- The bytes are the input: they were known beforehand; or, of a text that begins with the bytes that the reads
 -- returned, they are the part that was not read before.
-abbrev pub IsInput : Given → List ℕ → Type 0
+abbrev pub IsInput : InputRecord → List ℕ → Type 0
 IsInput given input = (given.known ≡ Some input) ⊎ ((text : List ℕ) × GaveText given.after text × (input ≡ rest_after given.before text))
 
 -- A sink: the bytes that it holds, if they are known, and its events in order.

@@ -1,6 +1,6 @@
 -- A `FailureTracking` reader as a source, and a `FailureTracking` writer as a sink.
 use Rattle.std.specs.Prelude.{ℕ, Bool, true, false, List, [], Option, Some}
-use Rattle.command_server.specs.Streams.{Given, Stream}
+use Rattle.command_server.specs.Streams.{InputRecord, Stream}
 use Rattle.command_server.specs.declared.streams.FailureTracking.{FailureTracking}
 
 -- The writer's contents, and its events as a sink.
@@ -21,5 +21,5 @@ abbrev pub still_known : {I : Type 0} → (I → Option (List ℕ)) → FailureT
 still_known remaining r = unless_ended r.has_ended (remaining r.inner)
 
 -- The input between two states of its reader, as far as it is known.
-abbrev pub given_by : {I : Type 0} → (I → Option (List ℕ)) → FailureTracking I → FailureTracking I → Given
+abbrev pub given_by : {I : Type 0} → (I → Option (List ℕ)) → FailureTracking I → FailureTracking I → InputRecord
 given_by remaining old new = record { known = still_known remaining old; before = reads_of old; after = reads_of new }

@@ -14,7 +14,8 @@ use crate::events::Events;
 use recover::Session;
 use sector_disk::Sectors;
 use std::io;
-use std::io::{ErrorKind, Read, Write};
+use std::io::{Read, Write};
+use system_calls::retry;
 
 /// The failure of a reader's or a writer's call.
 #[derive(Clone, Copy, Debug, PartialEq, Eq)]
@@ -331,14 +332,12 @@ impl Source for &[u8] {
 fn read_once<R: Read>(reader: &mut R, block: &mut [u8]) -> Option<usize>
     ensures { ReadsSome (R.remaining reader.old) (R.remaining reader.new) result block.new }
 {
-    for _ in 0..u64::MAX {
-        match reader.read(block) {
-            Ok(len) => return Some(len),
-            Err(error) if error.kind() == ErrorKind::Interrupted => {}
-            Err(_) => return None,
-        }
+    let mut call = || reader.read(block);
+    match retry(&mut call) {
+        Some(Ok(len)) => Some(len),
+        Some(Err(_)) => None,
+        None => None,
     }
-    None
 }
 
 /// Writes a text, or returns how many of its bytes were written before a call failed. A call that a signal
@@ -360,13 +359,11 @@ pub fn write_text<W: Write>(writer: &mut W, text: &[u8]) -> Result<(), usize>
 fn write_once<W: Write>(writer: &mut W, text: &[u8]) -> Option<usize>
     ensures { WritesSome (W.contents writer.old) (W.contents writer.new) result text.now }
 {
-    for _ in 0..u64::MAX {
-        match writer.write(text) {
-            Ok(0) => return None,
-            Ok(len) => return Some(len),
-            Err(error) if error.kind() == ErrorKind::Interrupted => {}
-            Err(_) => return None,
-        }
+    let mut call = || writer.write(text);
+    match retry(&mut call) {
+        Some(Ok(0)) => None,
+        Some(Ok(len)) => Some(len),
+        Some(Err(_)) => None,
+        None => None,
     }
-    None
 }

@@ -16,22 +16,22 @@ use Rattle.command_types.specs.declared.commands.Command.TheVariants.{Pin}
 use Rattle.command_text.specs.Freezing.{freeze_commands, new_pin_len, freeze_vehicles, pinned_before}
 
 -- the number of consecutive numbers, from k on and below n, that pass the test
-abbrev pub front : (ℕ → Bool) → ℕ → ℕ → ℕ
-front test k n = prefix_len test (range_with_len k (n - k))
+abbrev pub prefix_from : (ℕ → Bool) → ℕ → ℕ → ℕ
+prefix_from test k n = prefix_len test (range_with_len k (n - k))
 
-pub front_step : (test : ℕ → Bool) (k n : ℕ) → k < n → front test k n ≡ cond (test k) (1 + front test (k + 1) n) 0
-front_step test k n below =
+pub prefix_step : (test : ℕ → Bool) (k n : ℕ) → k < n → prefix_from test k n ≡ cond (test k) (1 + prefix_from test (k + 1) n) 0
+prefix_step test k n below =
     let left : n - k ≡ suc (n - (k + 1)) = omega (arith, below) in
     ap (λ m. prefix_len test (range_with_len k m)) left
 
-pub front_goes : (test : ℕ → Bool) (k n : ℕ) → k < n → test k ≡ true → front test k n ≡ 1 + front test (k + 1) n
-front_goes test k n below is = front_step test k n below ∙ ap (λ b. cond b (1 + front test (k + 1) n) 0) is
+pub prefix_continues : (test : ℕ → Bool) (k n : ℕ) → k < n → test k ≡ true → prefix_from test k n ≡ 1 + prefix_from test (k + 1) n
+prefix_continues test k n below is = prefix_step test k n below ∙ ap (λ b. cond b (1 + prefix_from test (k + 1) n) 0) is
 
-pub front_ends : (test : ℕ → Bool) (k n : ℕ) → k < n → test k ≡ false → front test k n ≡ 0
-front_ends test k n below is = front_step test k n below ∙ ap (λ b. cond b (1 + front test (k + 1) n) 0) is
+pub prefix_ends : (test : ℕ → Bool) (k n : ℕ) → k < n → test k ≡ false → prefix_from test k n ≡ 0
+prefix_ends test k n below is = prefix_step test k n below ∙ ap (λ b. cond b (1 + prefix_from test (k + 1) n) 0) is
 
-pub front_none : (test : ℕ → Bool) (k n : ℕ) → n ≤ k → front test k n ≡ 0
-front_none test k n past = let left : n - k ≡ 0 = omega (arith, past) in ap (λ m. prefix_len test (range_with_len k m)) left
+pub prefix_none : (test : ℕ → Bool) (k n : ℕ) → n ≤ k → prefix_from test k n ≡ 0
+prefix_none test k n past = let left : n - k ≡ 0 = omega (arith, past) in ap (λ m. prefix_len test (range_with_len k m)) left
 
 -- a route has a visit for each of its places
 pub no_visit : {X : Type 0} (p : Instance) (route : List ℕ) (k : ℕ) → k ≤ length route → visits_from p route k ≡ [] → X

@@ -83,8 +83,8 @@ fault_once Fault f g a b = both_first a.0 b.0 f g (a.2 b.0 g.line g.kind b.1) (b
 pub read_once : (format : Format) (text : List ℕ) (result found : Result Instance ReadFault) → IfOk result (SpellsInstance format text)
     → IfErr result (ReportsFirstFault (InstanceFault format text)) → IsReadResult format text found
     → IsUnlessOutOfMemory result found
-read_once format text (Ok p) (Ok q) spells tells is = inl (ap Ok (problem_once format text p q spells is))
-read_once format text (Ok p) (Err g) spells tells is = absurd (no_fault format text p spells is.0 g.line g.kind is.1)
+read_once format text (Ok p) (Ok q) spells reports is = inl (ap Ok (problem_once format text p q spells is))
+read_once format text (Ok p) (Err g) spells reports is = absurd (no_fault format text p spells is.0 g.line g.kind is.1)
 read_once format text (Err f) found spells (inl none) is = inr (ap Err none)
 read_once format text (Err f) (Ok q) spells (inr first) is = absurd (no_fault format text q is first.0 f.line f.kind first.1)
 read_once format text (Err f) (Err g) spells (inr first) is = inl (ap Err (fault_once (InstanceFault format text) f g first is))

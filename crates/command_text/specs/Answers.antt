@@ -10,11 +10,11 @@ use Rattle.instance_read.specs.declared.faults.ReadFaultKind.TheVariants.{OutOfM
 use Rattle.sol_text.specs.Names.{kind_name as sol_name}
 use Rattle.sol_text.specs.declared.faults.SolFaultKind.{SolFaultKind}
 use Rattle.sol_text.specs.declared.faults.SolFaultKind.TheVariants as sol
-use Rattle.vehicle_assignment.specs.declared.faults.AssignmentFault.{AssignmentFault as UnseatedBy}
-use Rattle.vehicle_assignment.specs.declared.faults.AssignmentFault.TheVariants as unseated
+use Rattle.vehicle_assignment.specs.declared.faults.AssignmentFault.{AssignmentFault as SolutionFault}
+use Rattle.vehicle_assignment.specs.declared.faults.AssignmentFault.TheVariants as assignment
 use Rattle.command_text.specs.declared.help.TheConstants.{HELP}
 use Rattle.command_text.specs.declared.answers.Answer.{Answer}
-use Rattle.command_text.specs.declared.answers.Answer.TheVariants.{Ok, BadLine, Truncated, Broken, Refused, Read, AssignmentFault, Unplanned, Spent, DeviceFault}
+use Rattle.command_text.specs.declared.answers.Answer.TheVariants.{Ok, BadLine, Truncated, Broken, Refused, Read, AssignmentFault, Unplanned, NoTimes, NoFormat, Spent, DeviceFault}
 
 -- A line with its line feed.
 abbrev pub line : List ℕ → List ℕ
@@ -41,11 +41,11 @@ broken_text rule route place stop = codes "broken " ++ decimal rule ++ codes " r
 
 -- The reason why a solution does not become a plan: its fault, or the auditor's line and `no NotAPlan`, or `no
 -- Pinned`. The last one means that no route begins with the pin of some vehicle.
-abbrev pub unseated_text : UnseatedBy → List ℕ
-unseated_text (unseated.Sol fault) = sol_fault_text fault.kind fault.line
-unseated_text (unseated.Broken rule route place stop) = line (broken_text rule route place stop) ++ no_text (codes "NotAPlan")
-unseated_text (unseated.PinWithoutRoute vehicle) = no_text (codes "Pinned")
-unseated_text unseated.OutOfMemory = no_text (codes "OutOfMemory")
+abbrev pub assignment_fault_text : SolutionFault → List ℕ
+assignment_fault_text (assignment.Sol fault) = sol_fault_text fault.kind fault.line
+assignment_fault_text (assignment.Broken rule route place stop) = line (broken_text rule route place stop) ++ no_text (codes "NotAPlan")
+assignment_fault_text (assignment.PinWithoutRoute vehicle) = no_text (codes "Pinned")
+assignment_fault_text assignment.OutOfMemory = no_text (codes "OutOfMemory")
 
 -- The line that ends the answer to a command, without its line feed. If a solution breaks a rule, the auditor's
 -- line comes before it.
@@ -56,8 +56,10 @@ answer_text Truncated = no_text (codes "Truncated")
 answer_text Broken = no_text (codes "Broken")
 answer_text (Refused refusal) = no_text (refusal_name refusal)
 answer_text (Read fault) = read_text fault.kind fault.line
-answer_text (AssignmentFault why) = unseated_text why
+answer_text (AssignmentFault why) = assignment_fault_text why
 answer_text Unplanned = no_text (codes "Unplanned")
+answer_text NoTimes = no_text (codes "NoTimes")
+answer_text NoFormat = no_text (codes "NoFormat")
 answer_text Spent = no_text (codes "Spent")
 answer_text DeviceFault = codes "fault device"
 

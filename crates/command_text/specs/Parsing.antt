@@ -1,13 +1,13 @@
 -- The parsing of a line, given without its line feed and the one carriage return before it. A command's name is
 -- its first word, and a field is a number that the line has.
-use Rattle.std.specs.Prelude.{ℕ, ◌^◌, ◌&&◌, ◌||◌, Bool, false, nat_le, int_le, int_lt, if◌then◌else◌, List, [], ◌∷◌, length, codes, bytes_eq, ℤ, pos, negsuc, Option, Some, None}
+use Rattle.std.specs.Prelude.{ℕ, ◌+◌, ◌^◌, ◌&&◌, ◌||◌, Bool, false, nat_le, int_le, int_lt, if◌then◌else◌, List, [], ◌∷◌, length, codes, bytes_eq, ℤ, pos, negsuc, Option, Some, None}
 use Rattle.std.specs.Int.RustNames.{unsigned_abs}
 use Rattle.std.specs.Option.{option_and_then, option_map, option_map_or}
 use Rattle.text_lines.specs.Words.{words_of}
 use Rattle.text_lines.specs.Numbers.{integer_of, below}
 use Rattle.instance_read.specs.Formats.{format_named}
 use Rattle.instance_read.specs.declared.formats.Format.{Format}
-use Rattle.plan_types.specs.declared.limits.TheConstants.{MAX_REQUESTED_STEPS}
+use Rattle.plan_types.specs.declared.limits.TheConstants.{MAX_REQUESTED_STEPS, MAX_STEPS, MAX_TIME}
 use Rattle.command_types.specs.declared.commands.Spot.{Spot}
 use Rattle.command_types.specs.declared.commands.Command.{Command}
 use Rattle.command_types.specs.declared.commands.Command.TheVariants as command
@@ -16,6 +16,7 @@ use Rattle.command_types.specs.declared.refusals.Refusal.TheVariants.{Range, NoS
 use Rattle.command_text.specs.declared.fields.Field.{Field}
 use Rattle.command_text.specs.declared.verbs.Verb.{Verb}
 use Rattle.command_text.specs.declared.verbs.Verb.TheVariants as verb
+use Rattle.command_text.specs.declared.parsed_command.TheConstants.{MAX_LINE_LEN, MAX_TEXT_LEN}
 use Rattle.command_text.specs.declared.parsed_command.ParsedCommand.{ParsedCommand}
 use Rattle.command_text.specs.declared.parsed_command.Purpose.{Purpose}
 use Rattle.command_text.specs.declared.parsed_command.Purpose.TheVariants as purpose
@@ -92,19 +93,19 @@ anneal_of n = option_map goal.Anneal (count_of n)
 abbrev pub reduce_of : Option ℕ → Option StepRequest
 reduce_of n = option_map goal.Reduce (count_of n)
 
--- `freeze T`: the request for the pins at time T, if T is in 0..=100,000,000.
+-- `freeze T`: the request for the pins at time T, if T is in 0..=`MAX_TIME`.
 abbrev pub freeze_of : Option ℕ → Option StepRequest
 freeze_of None = None
-freeze_of (Some t) = if nat_le t 100000000 then Some (goal.Freeze t) else None
+freeze_of (Some t) = if nat_le t MAX_TIME then Some (goal.Freeze t) else None
 
--- `reach N`: the request for search steps up to step N, if N is in 0..=2^60.
+-- `reach N`: the request for search steps up to step N, if N is in 0..=`MAX_STEPS`.
 abbrev pub reach_of : Option ℕ → Option StepRequest
 reach_of None = None
-reach_of (Some n) = if nat_le n (2 ^ 60) then Some (goal.Reach n) else None
+reach_of (Some n) = if nat_le n MAX_STEPS then Some (goal.Reach n) else None
 
--- `anneal FROM TO`: the request for annealing in stages, if TO is in 0..=2^60 and FROM is not above it.
+-- `anneal FROM TO`: the request for annealing in stages, if TO is in 0..=`MAX_STEPS` and FROM is not above it.
 abbrev pub stages_of : Option ℕ → Option ℕ → Option StepRequest
-stages_of (Some from) (Some to) = if nat_le from to && nat_le to (2 ^ 60) then Some (goal.Stages from to) else None
+stages_of (Some from) (Some to) = if nat_le from to && nat_le to MAX_STEPS then Some (goal.Stages from to) else None
 stages_of _ _ = None
 
 -- A question if its number fits its field, otherwise this refusal.
@@ -163,7 +164,7 @@ parse_numbers v (q ∷ x ∷ y ∷ e ∷ l ∷ s ∷ []) = parse_spot v q (spot_
 parse_numbers v (q ∷ x ∷ y ∷ e ∷ l ∷ s ∷ x' ∷ y' ∷ e' ∷ l' ∷ s' ∷ []) = parse_two_spots v q (spot_of x y e l s) (spot_of x' y' e' l' s')
 parse_numbers v _ = BadLine
 
--- A line that announces a text of this length, in 0..=16,777,216, or that is out of range without one.
+-- A line that announces a text of this length, in 0..=`MAX_TEXT_LEN`, or that is out of range without one.
 abbrev pub text_within : Purpose → Option ℕ → ParsedCommand
 text_within purpose (Some len) = Text purpose len
 text_within purpose None = TextRange
@@ -175,7 +176,7 @@ load_within format None len = TextRange
 
 -- A `load` command by its format and its numbers SEED and LEN; a bad line if the format or a number is missing.
 abbrev pub load_with : Option Format → Option (List Field) → ParsedCommand
-load_with (Some format) (Some (seed ∷ len ∷ [])) = load_within format seed.unsigned (below 16777217 len.unsigned)
+load_with (Some format) (Some (seed ∷ len ∷ [])) = load_within format seed.unsigned (below (MAX_TEXT_LEN + 1) len.unsigned)
 load_with _ _ = BadText
 
 -- A `load` command by the words after its name: KIND SEED LEN.
@@ -185,7 +186,7 @@ parse_load (kind ∷ words) = load_with (format_named kind) (fields_of words)
 
 -- An `adopt` command by its only number, LEN; a bad line if there is another count of numbers.
 abbrev pub adopt_with : Option (List Field) → ParsedCommand
-adopt_with (Some (len ∷ [])) = text_within purpose.Adopt (below 16777217 len.unsigned)
+adopt_with (Some (len ∷ [])) = text_within purpose.Adopt (below (MAX_TEXT_LEN + 1) len.unsigned)
 adopt_with _ = BadText
 
 -- All commands with their names.
@@ -241,7 +242,7 @@ abbrev pub announces_text : List (List ℕ) → Bool
 announces_text [] = false
 announces_text (word ∷ words) = bytes_eq (codes "load") word || bytes_eq (codes "adopt") word
 
--- A line, parsed. A line of more than 1,024 bytes is bad, whatever it contains.
-unfoldable pub requested : List ℕ → ParsedCommand
-requested line =
-    if nat_le (length line) 1024 then parse_words (words_of line) else if announces_text (words_of line) then BadText else BadLine
+-- A line, parsed. A line of more than `MAX_LINE_LEN` bytes is bad, whatever it contains.
+unfoldable pub parsed_line : List ℕ → ParsedCommand
+parsed_line line =
+    if nat_le (length line) MAX_LINE_LEN then parse_words (words_of line) else if announces_text (words_of line) then BadText else BadLine

@@ -4,6 +4,9 @@ use Rattle.std.specs.Option.{option_and_then, option_map}
 use Rattle.annealing_schedule.specs.Stages.{boundary, hundredths_of, mean_leg_share, stage_of}
 use Rattle.command_core.specs.Effects.{job_after, with_deviation}
 use Rattle.command_types.specs.Job.{JobValue}
+use Rattle.command_types.specs.declared.limits.TheConstants.{MAX_REDUCE_STEPS}
+use Rattle.command_text.specs.declared.staging.TheConstants.{FIRST_HUNDREDTHS}
+use Rattle.command_text.specs.declared.steps.TheConstants.{MAX_ANNEAL_PIECE}
 use Rattle.command_types.specs.declared.commands.Command.{Command}
 use Rattle.command_types.specs.declared.commands.Command.TheVariants.{Anneal, Deviation, Reduce}
 use Rattle.plan_types.specs.declared.requests.Kind.{Kind}
@@ -21,21 +24,21 @@ first_anneal_end from to = from + (halfway from to - from) / 20
 
 -- ---- the next operation after n steps, for the steps `from..to`
 
--- The operation in stage k: annealing up to the end of the stage, with at most 16,384 steps.
+-- The operation in stage k: annealing up to the end of the stage, with at most `MAX_ANNEAL_PIECE` steps.
 abbrev pub stage_piece : ℕ → ℕ → ℕ → ℕ → Command
-stage_piece from to n k = Anneal (min (boundary from to (k + 1) - n) 16384)
+stage_piece from to n k = Anneal (min (boundary from to (k + 1) - n) MAX_ANNEAL_PIECE)
 
 -- The next operation if all steps anneal in stages, or none if step n is not in `from..to`.
 abbrev pub staged_steps : ℕ → ℕ → ℕ → Option Command
 staged_steps from to n = option_map (stage_piece from to n) (stage_of from to n)
 
 -- The next operation if the number of vehicles counts. The first half anneals and then looks for fewer vehicles,
--- with at most 524,288 steps in one operation. The second half anneals in stages.
+-- with at most `MAX_REDUCE_STEPS` steps in one operation. The second half anneals in stages.
 abbrev pub reducing_steps : ℕ → ℕ → ℕ → Option Command
 reducing_steps from to n =
     if nat_lt n from then None else
-    if nat_lt n (first_anneal_end from to) then Some (Anneal (min (first_anneal_end from to - n) 16384)) else
-    if nat_lt n (halfway from to) then Some (Reduce (min (halfway from to - n) 524288)) else staged_steps (halfway from to) to n
+    if nat_lt n (first_anneal_end from to) then Some (Anneal (min (first_anneal_end from to - n) MAX_ANNEAL_PIECE)) else
+    if nat_lt n (halfway from to) then Some (Reduce (min (halfway from to - n) MAX_REDUCE_STEPS)) else staged_steps (halfway from to) to n
 
 -- The operation that makes the next steps, or none if no steps are left.
 abbrev pub steps_due : Kind → ℕ → ℕ → ℕ → Option Command
@@ -54,7 +57,7 @@ staged_hundredths from to n = option_and_then (stage_start_hundredths from to n)
 -- at the start of the first annealing, and that of the stage in the second half.
 abbrev pub reducing_hundredths : ℕ → ℕ → ℕ → Option ℕ
 reducing_hundredths from to n =
-    if nat_lt n (halfway from to) then (if (n == from) && nat_lt n (first_anneal_end from to) then Some 100 else None) else staged_hundredths (halfway from to) to n
+    if nat_lt n (halfway from to) then (if (n == from) && nat_lt n (first_anneal_end from to) then Some FIRST_HUNDREDTHS else None) else staged_hundredths (halfway from to) to n
 
 -- The deviation to set before step n, in hundredths of the mean leg, or none if it stays as it is.
 abbrev pub hundredths_due : Kind → ℕ → ℕ → ℕ → Option ℕ
@@ -85,14 +88,14 @@ module _ (from to : ℕ) where
   next_deviation j = option_map (mean_leg_share j.problem j.plan) (hundredths_due j.problem.kind from to j.steps)
 
   -- The operation that makes the next steps, once their deviation is set, and the operations `next` after it.
-  abbrev pub making : (JobValue → List Command) → JobValue → List Command
-  making next j = made_by next (next_steps j) j
+  abbrev pub next_operations : (JobValue → List Command) → JobValue → List Command
+  next_operations next j = made_by next (next_steps j) j
 
   -- The first n operations that make steps, each after the operation that sets its deviation if there is one.
   -- There are fewer than n if the last step comes first.
   unfoldable pub staged_within : ℕ → JobValue → List Command
   staged_within zero j = []
-  staged_within (suc n) j = set_before (making (staged_within n)) (next_deviation j) j
+  staged_within (suc n) j = set_before (next_operations (staged_within n)) (next_deviation j) j
 
   -- All operations that are left. The limit on their number is high enough, since each operation makes at least
   -- one step.
@@ -101,4 +104,4 @@ module _ (from to : ℕ) where
 
   -- All operations that are left, once the deviation of the next steps is set.
   abbrev pub commands_in_stage : JobValue → List Command
-  commands_in_stage j = making (staged_within (to - j.steps)) j
+  commands_in_stage j = next_operations (staged_within (to - j.steps)) j

@@ -3,6 +3,7 @@
 ghost use Rattle.std.specs.Prelude.{◌≡◌, ◌<◌, ◌≤◌, ◌++◌, [], ◌∷◌, length, None, Some, MatchOption, OnSome};
 ghost use Rattle.command_text.specs.Parsing.{as_u32, field_in, field_of, fields_of};
 ghost use Rattle.command_text.specs.Numbers.{IsNoCommand};
+ghost use Rattle.command_text.specs.declared.fields.TheConstants.{MAX_NUMBERS};
 
 use std::marker::Model;
 use text_lines::{Number, Words};
@@ -48,7 +49,7 @@ fn integer(word: &[u8]) -> Option<Field>
 /// The numbers of a line, at most `MAX_NUMBERS` of them.
 #[derive(Drop)]
 pub(crate) struct Fields {
-    fields: [Field; 11],
+    fields: [Field; MAX_NUMBERS],
     used: usize,
 }
 
@@ -74,14 +75,14 @@ impl Fields {
             unsigned: None,
         };
         Fields {
-            fields: [none; 11],
+            fields: [none; MAX_NUMBERS],
             used: 0,
         }
     }
 
     // Adds a number. Returns `None` if there is no room.
     fn push(&mut self, field: Field) -> Option<()>
-        ensures none { result ≡ None → 11 ≤ length self.old }
+        ensures none { result ≡ None → MAX_NUMBERS ≤ length self.old }
         ensures some { OnSome result (self.new ≡ self.old ++ field ∷ []) }
     {
         if self.used == MAX_NUMBERS {

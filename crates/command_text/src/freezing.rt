@@ -1,6 +1,7 @@
 //! The operations of `freeze T`, one by one.
 ghost use Rattle.std.specs.Prelude.{◌≡◌, ◌≤◌, ◌<◌, ◌+◌, ◌-◌, ◌^◌, [], ◌∷◌, Some, None, IfSome, MatchOption, max, length};
 ghost use Rattle.std.specs.List.{find, range_with_len};
+ghost use Rattle.plan_types.specs.declared.limits.TheConstants.{MAX_STOP_NUMBER};
 ghost use Rattle.route_sched.specs.Route.{AreDistinctStops};
 ghost use Rattle.move_ops.specs.Insertion.{route_of};
 ghost use Rattle.command_core.specs.Effects.{effect};
@@ -92,7 +93,7 @@ fn has_departed(visit: &Visit, time: u32) -> bool
 
 // Returns the smallest number of stops, at least `first`, that may be pinned for the vehicle.
 fn pin_end(state: &State, route: &[u32], vehicle: u32, first: usize) -> Option<u32>
-    requires few { length route.now ≤ 40001 }
+    requires few { length route.now ≤ MAX_STOP_NUMBER + 1 }
     ensures { (job : _) → state.now ≡ Loaded job → route.now ≡ route_of job.plan vehicle
         → result ≡ pin_end job vehicle first }
 {

@@ -1,9 +1,10 @@
 //! Parsing of a line into a command.
-ghost use Rattle.std.specs.Prelude.{◌≡◌};
+ghost use Rattle.std.specs.Prelude.{◌≡◌, ◌+◌};
 ghost use Rattle.std.specs.Option.{option_map_or};
 ghost use Rattle.text_lines.specs.Words.{words_of};
 ghost use Rattle.text_lines.specs.Numbers.{below};
-ghost use Rattle.command_text.specs.Parsing.{adopt_with, announces_text, requested, fields_of, parse_load, load_with, load_within, parse_numbers, text_within, parse_command, parse_words};
+ghost use Rattle.command_text.specs.declared.parsed_command.TheConstants.{MAX_TEXT_LEN};
+ghost use Rattle.command_text.specs.Parsing.{adopt_with, announces_text, parsed_line, fields_of, parse_load, load_with, load_within, parse_numbers, text_within, parse_command, parse_words};
 
 use crate::fields::{Field, Fields, integers};
 use crate::questions::Question;
@@ -64,9 +65,9 @@ pub enum ParsedCommand {
 }
 
 /// Parses a line, given without its line end. Takes no memory.
-#[tactic(auto, unfolding(crate::specs::Parsing::requested))]
+#[tactic(auto, unfolding(crate::specs::Parsing::parsed_line))]
 pub fn read_line(line: &[u8]) -> ParsedCommand
-    ensures { result ≡ requested line.now }
+    ensures { result ≡ parsed_line line.now }
 {
     let mut words = Words::new(line);
     if line.len() <= MAX_LINE_LEN {
@@ -164,7 +165,7 @@ fn load_with(format: Option<Format>, fields: Option<Fields>) -> ParsedCommand
 }
 
 fn load_within(format: Format, seed: Option<u64>, len: Option<u64>) -> ParsedCommand
-    ensures { result ≡ load_within format seed (below 16777217 len) }
+    ensures { result ≡ load_within format seed (below (MAX_TEXT_LEN + 1) len) }
 {
     match seed {
         Some(seed) => text_within(Purpose::Load { format, seed }, len),
@@ -186,7 +187,7 @@ fn adopt_with(fields: Option<Fields>) -> ParsedCommand
 }
 
 fn text_within(purpose: Purpose, len: Option<u64>) -> ParsedCommand
-    ensures { result ≡ text_within purpose (below 16777217 len) }
+    ensures { result ≡ text_within purpose (below (MAX_TEXT_LEN + 1) len) }
 {
     match len {
         Some(len) if len <= MAX_TEXT_LEN => ParsedCommand::Text {

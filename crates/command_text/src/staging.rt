@@ -7,14 +7,14 @@ ghost use Rattle.command_types.specs.declared.states.State.TheVariants.{Loaded};
 ghost use Rattle.command_text.specs.Answering.{commands_of};
 ghost use Rattle.command_text.specs.Staging.{commands_in_stage, first_anneal_end, halfway, hundredths_due, next_deviation, reducing_hundredths, reducing_steps, stage_commands, staged_hundredths, staged_steps, steps_due};
 
-use crate::steps::{MAX_ANNEAL_STEPS, MAX_REDUCE_STEPS, StepCursor};
+use crate::steps::{MAX_ANNEAL_PIECE, StepCursor};
 use annealing_schedule::{boundary, hundredths, mean_leg_share, stage_of};
-use command_core::{Command, Job};
+use command_core::{Command, Job, MAX_REDUCE_STEPS};
 use plan_audit::passing_is_local;
 use plan_types::Kind;
 
 /// The deviation during the annealing before the search for fewer vehicles, in hundredths of the mean leg.
-const FIRST_HUNDREDTHS: u32 = 100;
+pub const FIRST_HUNDREDTHS: u32 = 100;
 
 /// Returns the next operation of annealing in stages and the cursor after it. At the start of a stage, this
 /// operation sets the deviation of the stage.
@@ -77,7 +77,7 @@ fn reducing_steps(from: u64, to: u64, step: u64) -> Option<Command>
     }
     let first_anneal_end = first_anneal_end(from, to);
     if step < first_anneal_end {
-        return Some(Command::Anneal(at_most(first_anneal_end - step, MAX_ANNEAL_STEPS)));
+        return Some(Command::Anneal(at_most(first_anneal_end - step, MAX_ANNEAL_PIECE)));
     }
     let half = halfway(from, to);
     if step < half {
@@ -92,7 +92,7 @@ fn staged_steps(from: u64, to: u64, step: u64) -> Option<Command>
 {
     let stage = stage_of_step(from, to, step)?;
     let count = boundary(from, to, stage + 1) - step;
-    Some(Command::Anneal(at_most(count, MAX_ANNEAL_STEPS)))
+    Some(Command::Anneal(at_most(count, MAX_ANNEAL_PIECE)))
 }
 
 // Returns the deviation to set before the next steps, in hundredths of the mean leg, or `None` if it stays as it

@@ -77,8 +77,8 @@ is_empty (Loaded job) e = absurd (true≢false e)
 -- After `Ok`, a property of the new state holds for the effect of the command on the empty state.
 pub begun : {T D : Type 0} (answer : Result T Denial) (old new : SessionValue D) (command : Command) (Holds : State → Type 0) → old.state ≡ Empty → Makes answer old command new
     → (new.is_broken ≡ false → Holds new.state) → OnOk answer (Holds (effect Empty command))
-begun (Ok done) old new command Holds empty makes stands = subst Holds (makes.state ∙ ap (λ s. effect s command) empty) (stands makes.is_broken)
-begun (Err denial) old new command Holds empty makes stands = tt
+begun (Ok done) old new command Holds empty makes recovers = subst Holds (makes.state ∙ ap (λ s. effect s command) empty) (recovers makes.is_broken)
+begun (Err denial) old new command Holds empty makes recovers = tt
 
 -- ---- A text, or a prefix of it
 

@@ -32,12 +32,12 @@ stands_for_none image Spent nothing = inl nothing
 
 -- Opening an image that holds nothing does not return a state.
 opens_none : NeverBoth → (image : List ℕ) (fault : StoreFault) → UnlessReadFailed (HoldsNothing Two image) fault → Opens Two image (Err fault)
-opens_none never image DeviceFault nothing state stands = tt
-opens_none never image OutOfMemory nothing state stands = tt
-opens_none never image NotFormatted nothing state stands = never Two image stands.snapshot stands.commands stands.place NotFormatted stands.holds nothing
-opens_none never image BadVersion nothing state stands = never Two image stands.snapshot stands.commands stands.place BadVersion stands.holds nothing
-opens_none never image (Codec fault) nothing state stands = never Two image stands.snapshot stands.commands stands.place (Codec fault) stands.holds nothing
-opens_none never image Spent nothing state stands = never Two image stands.snapshot stands.commands stands.place Spent stands.holds nothing
+opens_none never image DeviceFault nothing state recovers = tt
+opens_none never image OutOfMemory nothing state recovers = tt
+opens_none never image NotFormatted nothing state recovers = never Two image recovers.snapshot recovers.commands recovers.place NotFormatted recovers.holds nothing
+opens_none never image BadVersion nothing state recovers = never Two image recovers.snapshot recovers.commands recovers.place BadVersion recovers.holds nothing
+opens_none never image (Codec fault) nothing state recovers = never Two image recovers.snapshot recovers.commands recovers.place (Codec fault) recovers.holds nothing
+opens_none never image Spent nothing state recovers = never Two image recovers.snapshot recovers.commands recovers.place Spent recovers.holds nothing
 
 abbrev pub unread : StoreFault → Result ℕ StoreFault
 unread fault = Err fault
@@ -174,7 +174,7 @@ module _ {D : Type 0} (on : sectors.Ghosts D) (old read : D) where
           given = λ honest. subst (λ (image : List ℕ). RecoversTo Two image session.state) (same honest) (following.given honest);
           opens = λ honest. subst (λ (image : List ℕ). Opens Two image (Ok session.state)) (same honest) (following.opens honest);
           replays = λ honest. subst (λ (image : List ℕ). IsReplayed Two image session.state session.place replayed) (same honest) (following.replays honest);
-          stands = following.stands;
+          recovers = following.recovers;
           reads = λ honest. following.reads honest ∙ same honest;
           moments = λ honest. moments session.device (following.honest honest) (following.moments honest);
           honest = λ honest. only.read.called.honest_before (following.honest honest);

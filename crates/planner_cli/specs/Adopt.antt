@@ -13,7 +13,7 @@ use Rattle.command_types.specs.declared.refusals.Refusal.TheVariants.{NotAPlan, 
 use Rattle.command_types.specs.declared.states.State.{State}
 use Rattle.command_types.specs.declared.states.State.TheVariants.{Empty, Loaded}
 use Rattle.command_server.specs.Streams.{Stream}
-use Rattle.command_text.specs.Answers.{line, unseated_text}
+use Rattle.command_text.specs.Answers.{line, assignment_fault_text}
 use Rattle.auditor_cli.specs.Reads.{FileRead}
 use Rattle.auditor_cli.specs.Messages.{PrintsReadFailure}
 use Rattle.planner_cli.specs.StoreDevices.{IsLeftOnFailure}
@@ -51,7 +51,7 @@ assignment_fault_status seats.OutOfMemory = 4
 -- The line that names this reason. The command `adopt` of `run` prints the same line.
 abbrev pub adopt_refusal_text : AdoptRefusal → List ℕ
 adopt_refusal_text none.NoInstance = line (codes "no NoInstance")
-adopt_refusal_text (none.AssignmentFault unseated) = line (unseated_text unseated)
+adopt_refusal_text (none.AssignmentFault unseated) = line (assignment_fault_text unseated)
 
 -- The exit status for this reason: 2 if the store holds no instance, and otherwise that of the assignment fault.
 abbrev pub adopt_refusal_status : AdoptRefusal → ℕ

@@ -48,7 +48,7 @@ module _ {D : Type 0} (on : sectors.Ghosts D) where
   MakesStoreAt IsNew state path Told ReportedNone left =
       ((old : D) × (new : D) × (made : Result Place FormatFault) × (left ≡ Some new) × IsNew path old × (on.len old ≡ sectors_in version_2) × IsMadeWith state old new made
       × (result_err made ≢ Some TooSmall) × Told made (on.calls new))
-      ⊎ ((refusal : OpenError) × (left ≡ None) × IsNotCreatedAt path refusal × (refusal.fault ≢ BadLength) × ReportedNone refusal.fault)
+      ⊎ ((refusal : OpenError) × (left ≡ None) × IsNotCreatedAt (sectors_in version_2) path refusal × (refusal.fault ≢ BadLength) × ReportedNone refusal.fault)
 
   -- The empty store is made, and the result is printed. `ok` is written after all device calls that made the
   -- store have finished. The last of them is a sync, so every crash image then holds the store.

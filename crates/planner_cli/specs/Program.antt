@@ -8,7 +8,7 @@ use Rattle.command_line.specs.Invocations.{draw, draw_store, explain, format, lo
 use Rattle.plan_types.specs.declared.requests.Kind.TheVariants.{LiLim}
 use Rattle.instance_read.specs.Formats.{format_of}
 use Rattle.command_server.specs.TrackedStream.{held, reads_of, still_known}
-use Rattle.command_server.specs.Streams.{Given, Stream}
+use Rattle.command_server.specs.Streams.{InputRecord, Stream}
 use Rattle.auditor_cli.specs.IgnoredLines.{PrintsIgnored}
 use Rattle.planner_cli.specs.Adopt.{AdoptsSolution}
 use Rattle.planner_cli.specs.Check.{ChecksStore}
@@ -67,7 +67,7 @@ seen reads writes requested remaining written reported files new_files disks str
 }
 
 -- The input of a subcommand, as far as the worlds before and after it show it.
-abbrev pub given_in : World → World → Given
+abbrev pub given_in : World → World → InputRecord
 given_in old new = record { known = old.input; before = old.reads; after = new.reads }
 
 -- The files that were read and those that were to be made, and the content of standard error.
@@ -198,7 +198,7 @@ module _ {D N : Type 0} (on_old : sectors.Ghosts D) (on_new : sectors.Ghosts N) 
     pub leaves : AreLeftFor requested left
     pub reads : AreReadFor requested old.files new.files
     pub makes : AreMadeFor requested old.new_files new.new_files
-    pub asks : AreRequestedFor requested old.disks new.disks
+    pub requests : AreRequestedFor requested old.disks new.disks
     pub input : IsInputKept requested old new
     pub errors : AreErrorsKept requested old new
 

@@ -5,7 +5,7 @@ use Rattle.std.specs.Io.KnownBytes.{Appends}
 use Rattle.checkpoint.specs.declared.faults.StoreFault.{StoreFault}
 use Rattle.command_server.specs.ServeContract.{EndsOrIsCut, HasCause, IsTaken}
 use Rattle.command_server.specs.CrashRecovery.{RunsLeave}
-use Rattle.command_server.specs.Streams.{Extends, Given, IsInput, Stream}
+use Rattle.command_server.specs.Streams.{Extends, InputRecord, IsInput, Stream}
 use Rattle.command_server.specs.Strict.{ReportsLast, is_failed_answer}
 use Rattle.command_server.specs.declared.answering.ServeFault.{ServeFault}
 use Rattle.command_server.specs.declared.answering.ServeFault.TheVariants as serve
@@ -60,7 +60,7 @@ stop_unless_failed false reported = reported
 
 -- An input was served; in a strict run, up to the answer that reports the failure `failed_answer`. `given` says
 -- what is known about the input. Recovery from a crash at any moment meanwhile is as `RunsLeave` says.
-pub record IsInputServed {D : Type 0} (on : sectors.Ghosts D) (old : SessionValue D) (is_strict : Bool) (given : Given) (opened : Stream)
+pub record IsInputServed {D : Type 0} (on : sectors.Ghosts D) (old : SessionValue D) (is_strict : Bool) (given : InputRecord) (opened : Stream)
     (served : Result ⊤ ServeFault) (failed_answer : Option FailedAnswer) (answered : Stream) (reader_failed writer_failed : Bool) (new : SessionValue D) : Type 0 where
   pub serves : (input : List ℕ) → IsInput given input → Serves on served old input opened answered reader_failed (writer_failed || is_failed_answer failed_answer) new
   pub plain : is_strict ≡ false → failed_answer ≡ None
@@ -78,7 +78,7 @@ PrintsServeEnd served (Some stop.DeviceFault) before after status = (status ≡ 
 
 -- An input was served over an opened session, completely or in part. The line with the number of replayed steps
 -- was written first, then the answers, and nothing else to the output before the end.
-pub record ServesSession {D : Type 0} (on : sectors.Ghosts D) (old : SessionValue D) (replayed : ℕ) (is_strict : Bool) (given : Given) (before after : Stream)
+pub record ServesSession {D : Type 0} (on : sectors.Ghosts D) (old : SessionValue D) (replayed : ℕ) (is_strict : Bool) (given : InputRecord) (before after : Stream)
     (reader_failed writer_failed : Bool) (new : SessionValue D) : Type 0 where
   pub opened : Stream
   pub prints_opened : Extends before opened [] (opened_line replayed)
@@ -90,14 +90,14 @@ pub record ServesSession {D : Type 0} (on : sectors.Ghosts D) (old : SessionValu
 
 -- An input was served over an opened session. If the input can't be read to its end, a line after the answers
 -- says so.
-pub record RunsSession {D : Type 0} (on : sectors.Ghosts D) (old : SessionValue D) (replayed : ℕ) (is_strict : Bool) (given : Given) (before after : Stream)
+pub record RunsSession {D : Type 0} (on : sectors.Ghosts D) (old : SessionValue D) (replayed : ℕ) (is_strict : Bool) (given : InputRecord) (before after : Stream)
     (reader_failed writer_failed : Bool) (status : ℕ) : Type 0 where
   pub new : SessionValue D
   pub serves : ServesSession on old replayed is_strict given before after reader_failed writer_failed new
   pub tells : PrintsServeEnd serves.served serves.failed_answer serves.answered.contents after.contents status
 
 -- The input was not read, and nothing was written to the output.
-pub record IsUntouched (given : Given) (before after : Stream) : Type 0 where
+pub record IsUntouched (given : InputRecord) (before after : Stream) : Type 0 where
   pub reads : given.after ≡ given.before
   pub events : after.events ≡ before.events
 
@@ -111,33 +111,33 @@ module _ {D : Type 0} (on : sectors.Ghosts D) where
 
   -- The store on the device is opened and the input is served over it, or the reason why it can't be opened is
   -- printed.
-  abbrev pub RunsDevice : D → Bool → Given → Stream → Stream → Bool → Bool → ℕ → Type 0
+  abbrev pub RunsDevice : D → Bool → InputRecord → Stream → Stream → Bool → Bool → ℕ → Type 0
   RunsDevice device is_strict given before after reader_failed writer_failed status =
       OpensDevice device (λ session replayed. RunsSession on session replayed is_strict given before after reader_failed writer_failed status)
       (λ later fault. PrintsStoreFault fault before.contents after.contents status)
 
   -- The store in the file at a path is opened and the input is served over it, or the reason why that failed is
   -- printed. `IsOld` says what is known about the device over the file.
-  abbrev pub RunsStore : (List ℕ → D → Type 0) → List ℕ → Bool → Given → Stream → Stream → Bool → Bool → ℕ → Type 0
+  abbrev pub RunsStore : (List ℕ → D → Type 0) → List ℕ → Bool → InputRecord → Stream → Stream → Bool → Bool → ℕ → Type 0
   RunsStore IsOld path is_strict given before after reader_failed writer_failed status =
       ((device : D) × IsOld path device × RunsDevice device is_strict given before after reader_failed writer_failed status)
       ⊎ ((refusal : OpenError) × IsNotOpenedExistingAt path refusal × PrintsFileFault path refusal.fault before.contents after.contents status)
 
   -- For every result: the input was served over the session and `new` is the session afterwards, or neither the
   -- session nor a stream was touched.
-  abbrev pub ServesOver : SessionValue D → ℕ → Bool → Given → Stream → Stream → Bool → Bool → SessionValue D → Type 0
+  abbrev pub ServesOver : SessionValue D → ℕ → Bool → InputRecord → Stream → Stream → Bool → Bool → SessionValue D → Type 0
   ServesOver session replayed is_strict given before after reader_failed writer_failed new =
       ServesSession on session replayed is_strict given before after reader_failed writer_failed new ⊎ ((new ≡ session) × IsUntouched given before after)
 
   -- For every result: the device was opened, and `left` is the device afterwards. No call on it follows.
-  abbrev pub ServesDevice : D → Bool → Given → Stream → Stream → Bool → Bool → Option D → Type 0
+  abbrev pub ServesDevice : D → Bool → InputRecord → Stream → Stream → Bool → Bool → Option D → Type 0
   ServesDevice device is_strict given before after reader_failed writer_failed left =
       OpensDevice device (λ session replayed. (new : SessionValue D) × (left ≡ Some new.device) × ServesOver session replayed is_strict given before after reader_failed writer_failed new)
       (λ later fault. IsLeftRead on later left × IsUntouched given before after)
 
   -- For every result: the device over the file at a path was opened, and `left` is the device afterwards; or
   -- there was none, and nothing was read or written.
-  abbrev pub ServesStore : (List ℕ → D → Type 0) → List ℕ → Bool → Given → Stream → Stream → Bool → Bool → Option D → Type 0
+  abbrev pub ServesStore : (List ℕ → D → Type 0) → List ℕ → Bool → InputRecord → Stream → Stream → Bool → Bool → Option D → Type 0
   ServesStore IsOld path is_strict given before after reader_failed writer_failed left =
       ((device : D) × IsOld path device × ServesDevice device is_strict given before after reader_failed writer_failed left)
       ⊎ ((refusal : OpenError) × IsNotOpenedExistingAt path refusal × (left ≡ None) × IsUntouched given before after)

@@ -306,7 +306,7 @@ fn run_subcommand<R, X: DeviceFiles, T: FileAssumptions, I: Read, W: Write, E: W
 where
     R: Eprint + AllocGlobal,
     ensures status { IfOk result.0 (λ status. status ≤ 4) }
-    ensures asks { X.requested disks.new ≡ (FileRequest.OpenExisting, store.now) ∷ X.requested disks.old }
+    ensures requests { X.requested disks.new ≡ (FileRequest.OpenExisting, store.now) ∷ X.requested disks.old }
     ensures runs { IfOk result.0 (RunsStore ⟦<FileDevice<T> as Sectors>⟧
         (IsOpenedExistingAt ⟦<HostFile as FileCalls>⟧.entries) store.now is_strict
         (given_by I.remaining streams.input result.1.input) (held W.contents streams.output)

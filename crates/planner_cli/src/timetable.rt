@@ -190,7 +190,7 @@ pub(crate) fn timetable_store<R, X: DeviceFiles, T: FileAssumptions, W: Write, E
 where
     R: Eprint + AllocGlobal,
     ensures status { IfOk result (λ status. status ≤ 4) }
-    ensures asks { X.requested disks.new ≡ (FileRequest.OpenReadOnly, store.now) ∷ X.requested disks.old }
+    ensures requests { X.requested disks.new ≡ (FileRequest.OpenReadOnly, store.now) ∷ X.requested disks.old }
     ensures reported { IfOk result (TimetablesStore ⟦<FileDevice<T> as Sectors>⟧
         (IsOpenedReadOnlyAt ⟦<HostFile as FileCalls>⟧.entries) store.now form
         (W.contents output.old) (W.contents output.new)) }

@@ -1,6 +1,6 @@
 //! Problems written as instances, after requests were withdrawn.
 
-use instance_read::{Format, Layout, read_instance};
+use instance_read::{Format, Layout, Scale, read_instance};
 use instance_text::{WriteFault, write_instance};
 use plan_types::Problem;
 use std::alloc::Global;
@@ -116,7 +116,11 @@ fn is_written_as(alloc: Global, problem: &Problem, wanted: &[u8]) -> bool {
 
 // Returns whether the problem of an instance is written as this text after these requests were withdrawn.
 fn is_left_as(alloc: Global, layout: Layout, text: &[u8], names: &[u32], wanted: &[u8]) -> bool {
-    match read_instance(alloc, Format { layout }, text) {
+    let format = Format {
+        layout,
+        scale: Scale::One,
+    };
+    match read_instance(alloc, format, text) {
         Ok(mut problem) => {
             withdraw(&mut problem, names);
             is_written_as(alloc, &problem, wanted)
