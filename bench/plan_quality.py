@@ -4,7 +4,7 @@
 FOLDER holds instances, `NAME.vrp` or `NAME.txt` (Li-Lim), and `references.txt` with a line NAME UNPLANNED
 VEHICLES DISTANCE for each. Each instance is solved with each seed, audited and compared: the gap of the
 distance in percent, and for Li-Lim also the number of vehicles above the reference's. A plan that leaves
-requests out is reported as such.
+requests out or breaks a rule is reported as such.
 
     bench/plan_quality.py [--jobs N] [--against PROGRAM SECONDS] FOLDER STEPS [SEED..]
 
@@ -36,9 +36,14 @@ def references_of(folder):
 
 
 def audited(kind, path, plan):
-    """Returns vehicles and distance from the audit of a solution, an open file."""
+    """Returns vehicles and distance from the audit of a solution, an open file; or None, after the audit's answer
+    on standard error, if the solution does not pass.
+    """
     plan.seek(0)
-    audit = subprocess.run([PROGRAM, "audit", kind, path, "-"], stdin=plan, capture_output=True, check=True)
+    audit = subprocess.run([PROGRAM, "audit", kind, path, "-"], stdin=plan, capture_output=True, text=True, check=False)
+    if audit.returncode:
+        print(f"{path}: {audit.stdout.strip()}", file=sys.stderr)
+        return None
     _, _, vehicles, distance = audit.stdout.split()
     return int(vehicles), int(distance)
 
@@ -52,7 +57,9 @@ def run(words, output):
 
 
 def solved(kind, path, steps, seed):
-    """Returns vehicles and distance of the printed solution, or None if requests are left out, and the seconds."""
+    """Returns vehicles and distance of the printed solution, or None if it leaves requests out or does not pass, and
+    the seconds.
+    """
     with tempfile.TemporaryFile() as plan:
         status, seconds = run([PROGRAM, "solve", kind, path, str(steps), str(seed)], plan)
         if status == 1:
@@ -89,7 +96,7 @@ def report(label, tasks, found):
     gaps, above = [], []
     for (name, _, kind, seed, best_vehicles, best), (cost, seconds) in zip(tasks, found):
         if cost is None:
-            print(f"{label}: {name} seed {seed}: requests are left out, {seconds:.1f} s", flush=True)
+            print(f"{label}: {name} seed {seed}: no solution that passes, {seconds:.1f} s", flush=True)
             continue
         vehicles, distance = cost
         more = "" if kind == "vrp" else f", {vehicles - best_vehicles:+d} vehicles"

@@ -1062,6 +1062,8 @@ def check_outage(folder, town, alone):
     for van, time, words in ("2", "8:05", delivered_nothing), ("1", "8:30", no_sheet), ("x", "8:30", no_sheet):
         told = f"NothingDone 11: van {van} {words}"
         refused("out of a van without deliveries", "timetable", ["out", town, small, van, alone, time], told)
+    told = "DayOver 11: the depot closes at 9:00, so no van is planned at 9:01"
+    refused("out after the depot closes", "timetable", ["out", town, small, "2", alone, "9:01"], told)
     # The van is free at 8:08:44, and needs 55 seconds home. At 8:40 it can't be busy for half an hour more.
     for time, now, window, minutes in ("8:07", 29220, "8:07,8:38", 20), ("8:10", 29400, "8:10,8:40", 19), ("8:40", 31200, "8:40,9:00", 0):
         told = f"day.sh: write as the last row of the table:\nvan 2 out,0,Shop,2,0.003,0.004,{window},{minutes},Shop,2,0.003,0.004,,,0\n"

@@ -37,7 +37,7 @@ VALUES = {
 }
 # Fields that mean it when they are set, and methods when they are called. Functions that return `None` for it.
 MEMBERS = {"is_whole": MEMORY, "has_room": MEMORY, "has_failed": FAULT, "fail": FAULT, "fault": FAULT}
-RETURN_NONE = {"read_once": FAULT, "write_once": FAULT}
+RETURN_NONE = {"read_once": FAULT, "write_once": FAULT, "retry": FAULT}
 # Functions that allocate, and the arguments that they may have.
 ALLOCATIONS = re.compile(r"(.*::)?(with_capacity|reserve|reserve_exact|resize)")
 PLAIN = re.compile(r"(?!if$|match$|MAX$|MIN$|pow$|\d[\d_]{4})\w+|::|[.,()&+*/-]")

@@ -294,10 +294,10 @@ EXPLAINED = [
         b"Route #2: 3\n"
         b"Cost 30\n",
         0,
-        "route  stops   distance      load    set off     return    waiting\n"
-        "    1      2         20        10          0         20          0\n"
-        "    2      1         10         5          0         10          0\n"
-        "  sum      3         30                                          0\n",
+        "route  stops   distance      load\n"
+        "    1      2         20        10\n"
+        "    2      1         10         5\n"
+        "  sum      3         30\n",
     ),
     (
         "vrp",
@@ -306,11 +306,11 @@ EXPLAINED = [
         b"Cost 0\n",
         6,
         "overload: after stop 3, demand 5, the load is 15, the capacity 10\n"
-        "place   stop      leg    arrival      load\n"
-        "    1      1        5          5         6\n"
-        "    2      2        5         10        10\n"
-        "    3      3        7         17        15  overload\n"
-        "    4      0        5         22        15  overload\n"
+        "place   stop      leg      load\n"
+        "    1      1        5         6\n"
+        "    2      2        5        10\n"
+        "    3      3        7        15  overload\n"
+        "    4      0        5        15  overload\n"
         "places that break this rule: 1\n",
     ),
     # Several faults together: each rule after the first one is counted, too.
@@ -656,6 +656,34 @@ REFUSED_INSTANCES = [
         "the text looks like a .vrp instance, and is read as lilim\n",
     ),
     (
+        "lilim",
+        b"R101 is here\nVEHICLE\n",
+        "line 1: a word is not a whole number: fleet is R101\n"
+        "R101 is here\n"
+        "the text looks like a Solomon instance, and is read as lilim\n",
+    ),
+    (
+        "lilim",
+        "\ufeff2 10 1\n".encode("utf-16-le"),
+        "line 1: a word is not a whole number: fleet is ??2?\n"
+        "??2? ?1?0? ?1?\n"
+        "the text is UTF-16: save it as UTF-8, or by iconv -f UTF-16 -t UTF-8\n",
+    ),
+    (
+        "lilim",
+        b"2 10 1\r0 0 0 0 0 100 0 0 0\r",
+        "line 1: the number of words is wrong: 3 due, 11 found\n"
+        "2 10 1?0 0 0 0 0 100 0 0 0\n"
+        "the lines end with CR only: save them with LF, or by tr '\\r' '\\n'\n",
+    ),
+    (
+        "vrp",
+        b"R101\nCUSTOMER\n0 1 1 0 0 9 0\n",
+        "line 3: the number of words is wrong: these numbers stand in no section\n"
+        "0 1 1 0 0 9 0\n"
+        "the text looks like a Solomon instance, and is read as vrp\n",
+    ),
+    (
         "vrp",
         b"DIMENSION : 2 3\n",
         "line 1: the number of words is wrong: 1 due, 2 found\n"
@@ -868,6 +896,12 @@ REFUSED_SOLUTIONS = [
         "line 1: this is no route line, and no cost line with one word\n"
         "???Route #1: 1\n"
         "the text begins with a byte order mark (EF BB BF): save it without, or by tail -c +4\n",
+    ),
+    (
+        b"Cost 1x\rRoute #1: 1\r",
+        "line 1: this is no route line, and no cost line with one word: 1 due behind Cost, 3 found\n"
+        "Cost 1x?Route #1: 1\n"
+        "the lines end with CR only: save them with LF, or by tr '\\r' '\\n'\n",
     ),
     (
         b"Route #1: 1\n",

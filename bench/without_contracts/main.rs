@@ -2,6 +2,7 @@
 use kit::Global;
 use move_ops::Draft;
 use plan_types::{Pins, Plan, Problem, Route, Routes};
+use seeded_search::SearchContext;
 
 fn empty(problem: &Problem) -> Routes {
     let mut routes = Routes::new(Global);
@@ -37,7 +38,8 @@ fn main() {
     };
     let (start, first) = match words[0].as_str() {
         "reduce" => {
-            let reduction = fleet_reduction::reduce_fleet(&kit::Attempts, Global, &problem, &pins, &plan, number(4), 0, number(3) as u32).unwrap();
+            let context = SearchContext { problem: &problem, pins: &pins, deviation: 0, seed: number(4) };
+            let reduction = fleet_reduction::reduce_fleet(&kit::Attempts, Global, &context, &plan, 0, number(3) as u32).unwrap();
             (reduction.plan, reduction.step)
         }
         _ => (plan, 0),

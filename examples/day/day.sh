@@ -548,6 +548,10 @@ function print_outage(name,    n, k, stop, last) {
             "; give its sheet to an idle van" : " has no sheet in this plan"))
         return
     }
+    if (now > latest[0]) {
+        refuse("timetable", "DayOver", end_of["timetable"], "the depot closes at " clock_time(latest[0]) ", so no van is planned at " clock_time(now))
+        return
+    }
     print "unpin " van[n]
     for (k = 1; k < stops[n]; k += 1) {
         stop = stop_at[n, k]

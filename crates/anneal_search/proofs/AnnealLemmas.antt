@@ -9,7 +9,7 @@ use Rattle.plan_types.specs.declared.plans.Plan.{Plan}
 use Rattle.route_sched.specs.Cost.{cost_of}
 use Rattle.move_ops.specs.Moves.{removed}
 use Rattle.move_ops.specs.Drafts.{DraftState, base_of, draft_of, IsMade}
-use Rattle.move_ops.proofs.Times.{none_some, some_same}
+use Rattle.move_ops.proofs.OccurrenceLemmas.{none_some, some_same}
 use Rattle.seeded_search.specs.Words.{step_words}
 use Rattle.seeded_search.specs.Steps.{unplanned_names, is_near}
 use Rattle.seeded_search.specs.StepLaws.{BothPass}

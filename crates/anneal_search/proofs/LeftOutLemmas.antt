@@ -12,7 +12,7 @@ use Rattle.seeded_search.specs.Steps.{unplanned_names}
 use Rattle.anneal_search.specs.Absences.{HoldLeftOut, is_left_out, left_out}
 use Rattle.anneal_search.specs.Annealing.{recreated}
 use Rattle.anneal_search.specs.Orders.{ordered}
-use Rattle.anneal_search.proofs.UnplannedNameLemmas.{entries_found}
+use Rattle.move_ops.proofs.SortedRequestLemmas.{entries_found}
 use Rattle.anneal_search.proofs.PlacedLemmas.{placed_all_keeps}
 
 module _ (p : Instance) (left new : List (List ℕ)) (kept : (r : Request) → is_planned left r ≡ true → is_planned new r ≡ true) where

@@ -10,11 +10,11 @@ use Rattle.route_sched.specs.Cost.{has_stop, is_planned}
 use Rattle.plan_audit.specs.Passes.{passes}
 use Rattle.move_ops.specs.Insertion.{Insertion, request_named, route_of, passing, inserted, with_request_at, is_place_of, best_insertion, inserted_at}
 use Rattle.move_ops.specs.Drafts.{placed}
-use Rattle.move_ops.proofs.Counting.{planned_where}
-use Rattle.move_ops.proofs.Fitting.{had_often, often_had}
-use Rattle.move_ops.proofs.Inserting.{numbers_of, times_inserted}
-use Rattle.move_ops.proofs.Replacing.{times_with}
-use Rattle.move_ops.proofs.Times.{some_same, times}
+use Rattle.move_ops.proofs.UnplannedCountLemmas.{planned_where}
+use Rattle.move_ops.proofs.FitLemmas.{had_often, often_had}
+use Rattle.move_ops.proofs.InsertionLemmas.{numbers_of, times_inserted}
+use Rattle.move_ops.proofs.ReplacementLemmas.{times_with}
+use Rattle.move_ops.proofs.OccurrenceLemmas.{some_same, times}
 use Rattle.seeded_search.specs.Steps.{placed_all}
 use Rattle.seeded_search.proofs.SearchLemmas.{and_then_some, then_some}
 

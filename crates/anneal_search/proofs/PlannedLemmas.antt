@@ -13,10 +13,10 @@ use Rattle.route_sched.specs.Cost.{has_stop, is_planned}
 use Rattle.plan_audit.specs.Passes.{has}
 use Rattle.move_ops.specs.Insertion.{route_of, request_named}
 use Rattle.move_ops.specs.Moves.{is_movable, is_movable_name}
-use Rattle.move_ops.proofs.Drafting.{has_in_vehicle}
-use Rattle.move_ops.proofs.Fitting.{had_often}
-use Rattle.move_ops.proofs.Inserting.{nowhere}
-use Rattle.move_ops.proofs.Removing.{found_has}
+use Rattle.move_ops.proofs.DraftLemmas.{has_in_vehicle}
+use Rattle.move_ops.proofs.FitLemmas.{had_often}
+use Rattle.move_ops.proofs.InsertionLemmas.{nowhere}
+use Rattle.move_ops.proofs.PlanRemovalLemmas.{found_has}
 use Rattle.anneal_search.specs.StepLoops.{ArePlanned}
 use Rattle.anneal_search.specs.Strings.{cut_of, cut_stops, movable_at, strings_of}
 use Rattle.anneal_search.specs.declared.routes.NearStop.{NearStop}

@@ -27,18 +27,18 @@ stops_more routes k count all within so_far =
     ap (λ (rs : List (List ℕ)). length (concat rs)) (drop_at routes k within) ∙ length-append (route_of routes (k + 1)) (concat (drop (k + 1) routes)) in
     omega arith
 
-none_left : (routes : List (List ℕ)) (front : ℕ) → AreIdleAfter front routes → length (concat (drop front routes)) ≡ 0
+none_left : (routes : List (List ℕ)) (used_len : ℕ) → AreIdleAfter used_len routes → length (concat (drop used_len routes)) ≡ 0
 none_left [] zero idle = refl
-none_left [] (suc front) idle = refl
+none_left [] (suc used_len) idle = refl
 none_left (r ∷ routes) zero idle =
     let e = length-append r (concat routes) in
     let here : length r ≡ 0 = idle (suc zero) (omega arith) in
     let rest : length (concat routes) ≡ 0 = none_left routes zero (later r routes zero zero (omega arith) idle) in
     e ∙ (let sum : length r + length (concat routes) ≡ 0 = omega arith in sum)
-none_left (r ∷ routes) (suc front) idle = none_left routes front (later r routes front (suc front) (omega arith) idle)
+none_left (r ∷ routes) (suc used_len) idle = none_left routes used_len (later r routes used_len (suc used_len) (omega arith) idle)
 
-pub stops_end : (routes : List (List ℕ)) (front count all : ℕ) → AreIdleAfter front routes → count + length (concat (drop front routes)) ≡ all → count ≡ all
-stops_end routes front count all idle so_far = let e = none_left routes front idle in omega arith
+pub stops_end : (routes : List (List ℕ)) (used_len count all : ℕ) → AreIdleAfter used_len routes → count + length (concat (drop used_len routes)) ≡ all → count ≡ all
+stops_end routes used_len count all idle so_far = let e = none_left routes used_len idle in omega arith
 
 -- ---- used routes
 abbrev pub used : List ℕ → ℕ
@@ -62,15 +62,15 @@ used_more routes k count new all within made so_far =
     ap used_count (drop_at routes k within) ∙ sum_by-cons used (route_of routes (k + 1)) (drop (k + 1) routes) in
     omega arith
 
-none_used : (routes : List (List ℕ)) (front : ℕ) → AreIdleAfter front routes → used_count (drop front routes) ≡ 0
+none_used : (routes : List (List ℕ)) (used_len : ℕ) → AreIdleAfter used_len routes → used_count (drop used_len routes) ≡ 0
 none_used [] zero idle = refl
-none_used [] (suc front) idle = refl
+none_used [] (suc used_len) idle = refl
 none_used (r ∷ routes) zero idle =
     let e = sum_by-cons used r routes in
     let here : used r ≡ 0 = ap used (nil_from_length r (idle (suc zero) (omega arith))) in
     let rest : used_count routes ≡ 0 = none_used routes zero (later r routes zero zero (omega arith) idle) in
     e ∙ (let sum : used r + used_count routes ≡ 0 = omega arith in sum)
-none_used (r ∷ routes) (suc front) idle = none_used routes front (later r routes front (suc front) (omega arith) idle)
+none_used (r ∷ routes) (suc used_len) idle = none_used routes used_len (later r routes used_len (suc used_len) (omega arith) idle)
 
-pub used_end : (routes : List (List ℕ)) (front count all : ℕ) → AreIdleAfter front routes → count + used_count (drop front routes) ≡ all → count ≡ all
-used_end routes front count all idle so_far = let e = none_used routes front idle in omega arith
+pub used_end : (routes : List (List ℕ)) (used_len count all : ℕ) → AreIdleAfter used_len routes → count + used_count (drop used_len routes) ≡ all → count ≡ all
+used_end routes used_len count all idle so_far = let e = none_used routes used_len idle in omega arith

@@ -13,10 +13,10 @@ attempt_state first t = record { incumbent = t.annealing.search_state.incumbent.
 
 -- The invariant while there is a candidate. Each step counts every request at most once.
 pub record KeepsAttempt (p : Instance) (pins : List (List ℕ)) (t : Attempt) : Type 0 where
-  pub going : KeepsAnnealing p pins t.annealing
+  pub annealing : KeepsAnnealing p pins t.annealing
   pub few : AreAtMost (40001 * t.made) t.absences.items
 
 -- The invariant between two steps
 pub record IsAttempt (p : Instance) (pins : List (List ℕ)) (t : Attempt) : Type 0 where
-  pub going : IsAnnealing p pins t.annealing
+  pub annealing : IsAnnealing p pins t.annealing
   pub few : AreAtMost (40001 * t.made) t.absences.items

@@ -1,6 +1,7 @@
 //! An attempt to serve every request: annealing steps that compare plans by how often the requests that they
 //! leave out were left out before (absence counters, Christiaens and Vanden Berghe 2020).
 ghost use Rattle.std.specs.Prelude.{◌≡◌, ◌+◌, ◌*◌, ◌-◌, ◌<◌, ◌≤◌, ◌^◌, not, true, ◌==◌, IfOk, OnOk};
+ghost use Rattle.plan_types.specs.declared.limits.TheConstants.{MAX_STEPS};
 ghost use Rattle.plan_audit.specs.Passes.{passes};
 ghost use Rattle.route_sched.specs.Cost.{cost_of};
 ghost use Rattle.move_ops.specs.Drafts.{base_of, draft_of};
@@ -15,8 +16,8 @@ ghost use Rattle.anneal_search.specs.AttemptSteps.{IsAttempt, KeepsAttempt, atte
 use crate::absences::{count, left_out, weight};
 use crate::candidates::make;
 use crate::search::Annealing;
-use plan_types::{Cost, OutOfMemory, Pins, Plan, Problem};
-use seeded_search::{SearchState, StepWords};
+use plan_types::{Cost, OutOfMemory, Plan};
+use seeded_search::{SearchContext, SearchState, StepWords};
 use std::alloc::Global;
 
 /// The result of an attempt.
@@ -39,29 +40,27 @@ pub struct Reduction {
 ///
 /// At the end of a step, each request that the candidate leaves out is counted once more, whether or not the
 /// candidate was accepted. The plan must pass with these pins, and the number of the last step must be below
-/// 2^60.
+/// `MAX_STEPS`.
 #[tactic(auto, unfolding(crate::specs::AttemptState::attempt_step, crate::specs::AttemptState::attempt_steps))]
 pub fn attempt_steps(
     alloc: Global,
-    problem: &Problem,
-    pins: &Pins,
+    context: &SearchContext,
     plan: &Plan,
-    deviation: u32,
-    seed: u64,
     step: u64,
     most: u32,
 ) -> Result<Reduction, OutOfMemory>
-    requires plan { passes problem.now pins.now.routes plan.now.routes ≡ true }
-    requires first { step < 2 ^ 60 }
-    requires last { step + most ≤ 2 ^ 60 }
-    ensures tried { IfOk result (IsAttemptResult
-        (attempt_steps problem.now pins.now.routes deviation seed most
-        (begun problem.now plan.now.routes step))) }
+    requires plan { let c = context.now in
+        passes c.problem.now c.pins.now.routes plan.now.routes ≡ true }
+    requires first { step < MAX_STEPS }
+    requires last { step + most ≤ MAX_STEPS }
+    ensures tried { let c = context.now in IfOk result (IsAttemptResult
+        (attempt_steps c.problem.now c.pins.now.routes c.deviation c.seed most
+        (begun c.problem.now plan.now.routes step))) }
 {
-    let mut attempt = Attempt::begin(alloc, problem, pins, plan, most)?;
-    let mut words = StepWords::from_step(seed, step);
+    let mut attempt = Attempt::begin(alloc, context, plan, most)?;
+    let mut words = StepWords::from_step(context.seed, step);
     while attempt.made < most && attempt.leaves_out() {
-        attempt.step(alloc, problem, pins, deviation, &words.next_step())?;
+        attempt.step(alloc, context, &words.next_step())?;
     }
     let step = step + u64::from(attempt.made);
     Ok(Reduction {
@@ -85,19 +84,21 @@ impl Attempt {
     // Begins an attempt of at most `most` steps.
     fn begin(
         alloc: Global,
-        problem: &Problem,
-        pins: &Pins,
+        context: &SearchContext,
         plan: &Plan,
         most: u32,
     ) -> Result<Attempt, OutOfMemory>
-        requires { passes problem.now pins.now.routes plan.now.routes ≡ true }
+        requires { let c = context.now in
+            passes c.problem.now c.pins.now.routes plan.now.routes ≡ true }
         ensures made { IfOk result (λ attempt. attempt.made ≡ 0) }
         ensures begun { IfOk result (λ attempt. (step : _)
-            → attempt_state step attempt ≡ begun problem.now plan.now.routes step) }
-        ensures attempt { IfOk result (IsAttempt problem.now pins.now.routes) }
+            → attempt_state step attempt ≡ begun context.now.problem.now plan.now.routes step) }
+        ensures attempt { let c = context.now in
+            IfOk result (IsAttempt c.problem.now c.pins.now.routes) }
     {
-        let search_state = SearchState::begin(alloc, problem, pins, plan, plan)?;
-        let annealing = Annealing::begin(alloc, problem, pins, search_state, u64::from(most))?;
+        let problem = context.problem;
+        let search_state = SearchState::begin(alloc, context, plan, plan)?;
+        let annealing = Annealing::begin(alloc, context, search_state, u64::from(most))?;
         Ok(Attempt {
             annealing,
             absences: vec![in alloc; 0; problem.next_number as usize]?,
@@ -124,25 +125,25 @@ impl Attempt {
     fn step(
         &mut self,
         alloc: Global,
-        problem: &Problem,
-        pins: &Pins,
-        deviation: u32,
+        context: &SearchContext,
         words: &[u32; 16],
     ) -> Result<(), OutOfMemory>
-        requires attempt { IsAttempt problem.now pins.now.routes self.old }
+        requires attempt { let c = context.now in
+            IsAttempt c.problem.now c.pins.now.routes self.old }
         requires most { self.old.made + 1 < 2 ^ 32 }
         ensures made { OnOk result (self.new.made ≡ self.old.made + 1) }
-        ensures tried { OnOk result ((first : _)
-            → attempt_state first self.new ≡ attempt_after problem.now deviation (attempt_state first self.old)
-            (candidate problem.now pins.now.routes (base_of self.old.annealing.search_state.draft)
-            words.now)) }
-        ensures attempt { OnOk result (IsAttempt problem.now pins.now.routes self.new) }
+        ensures tried { let c = context.now in OnOk result ((first : _)
+            → attempt_state first self.new
+            ≡ attempt_after c.problem.now c.deviation (attempt_state first self.old)
+            (candidate c.problem.now c.pins.now.routes
+            (base_of self.old.annealing.search_state.draft) words.now)) }
+        ensures attempt { let c = context.now in
+            OnOk result (IsAttempt c.problem.now c.pins.now.routes self.new) }
     {
         let search_state = &mut self.annealing.search_state;
         let made = make(
             alloc,
-            problem,
-            pins,
+            context,
             &mut search_state.draft,
             &search_state.lists,
             &mut search_state.spatial_index,
@@ -152,7 +153,7 @@ impl Attempt {
             self.made += 1;
             return Ok(());
         };
-        self.settle(alloc, problem, pins, deviation, &missing)
+        self.settle(alloc, context, &missing)
     }
 
     // Replaces the plans that the candidate replaces, and counts the requests that it leaves out. The names of all
@@ -160,32 +161,33 @@ impl Attempt {
     fn settle(
         &mut self,
         alloc: Global,
-        problem: &Problem,
-        pins: &Pins,
-        deviation: u32,
+        context: &SearchContext,
         missing: &[u32],
     ) -> Result<(), OutOfMemory>
-        requires keeps { KeepsAttempt problem.now pins.now.routes self.old }
+        requires keeps { let c = context.now in
+            KeepsAttempt c.problem.now c.pins.now.routes self.old }
         requires most { self.old.made + 1 < 2 ^ 32 }
-        requires missing { HoldLeftOut problem.now
+        requires missing { HoldLeftOut context.now.problem.now
             (draft_of self.old.annealing.search_state.draft) missing.now }
         ensures made { OnOk result (self.new.made ≡ self.old.made + 1) }
-        ensures tried { OnOk result ((first : _)
+        ensures tried { let c = context.now in OnOk result ((first : _)
             → attempt_state first self.new
-            ≡ attempt_with problem.now deviation (attempt_state first self.old)
+            ≡ attempt_with c.problem.now c.deviation (attempt_state first self.old)
             (draft_of self.old.annealing.search_state.draft)) }
-        ensures attempt { OnOk result (IsAttempt problem.now pins.now.routes self.new) }
+        ensures attempt { let c = context.now in
+            OnOk result (IsAttempt c.problem.now c.pins.now.routes self.new) }
     {
+        let SearchContext { problem, pins, .. } = *context;
         self.made += 1;
         let left_out = left_out(alloc, problem, &self.annealing.search_state.draft, missing)?;
         let cost = self.annealing.search_state.draft.cost(problem, pins);
-        let follows = self.is_acceptable(deviation, &cost, &left_out);
+        let follows = self.is_acceptable(context.deviation, &cost, &left_out);
         count(&mut self.absences, &left_out);
         if !follows {
             self.annealing.search_state.draft.discard();
             return Ok(());
         }
-        self.annealing.accept(alloc, problem, pins, &cost)
+        self.annealing.accept(alloc, context, &cost)
     }
 
     // Returns whether a candidate of this cost that leaves out these requests may become the working plan.

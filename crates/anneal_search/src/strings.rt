@@ -17,7 +17,7 @@ use crate::routes::NearStop;
 use crate::routes_by_nearest_stops::routes_around;
 use move_ops::{Draft, request_named};
 use plan_types::{OutOfMemory, Pins, Problem, Stop};
-use seeded_search::SpatialIndex;
+use seeded_search::{SearchContext, SpatialIndex};
 use std::alloc::Global;
 
 /// The position of a string in a route. Places count from 0.
@@ -33,25 +33,26 @@ pub struct Cut {
 
 /// Returns the requests that the words of a step remove: the movable ones with a stop in a string, once for each
 /// such stop.
+#[inline(never)]
 pub(crate) fn ruined_names(
     alloc: Global,
-    problem: &Problem,
-    pins: &Pins,
+    context: &SearchContext,
     draft: &Draft,
     spatial_index: &mut SpatialIndex,
     movable: &[u32],
     words: &[u32; 16],
 ) -> Result<Vec<u32>, OutOfMemory>
-    requires draft { IsDraftOf problem.now pins.now.routes draft.now }
-    requires movable { movable.now
-        ≡ movable_names problem.now pins.now.routes (draft_of draft.now) }
-    requires nearest_stops { AreNearestStopLists problem.now spatial_index.old }
-    ensures names { IfOk result (λ names. names.items
-        ≡ ruined_names problem.now pins.now.routes (draft_of draft.now) words.now) }
-    ensures nearest_stops { OnOk result (AreNearestStopLists problem.now spatial_index.new) }
+    requires draft { IsDraftOf context.now.problem.now context.now.pins.now.routes draft.now }
+    requires movable { let c = context.now in
+        movable.now ≡ movable_names c.problem.now c.pins.now.routes (draft_of draft.now) }
+    requires nearest_stops { AreNearestStopLists context.now.problem.now spatial_index.old }
+    ensures names { let c = context.now in IfOk result (λ names. names.items
+        ≡ ruined_names c.problem.now c.pins.now.routes (draft_of draft.now) words.now) }
+    ensures nearest_stops { OnOk result
+        (AreNearestStopLists context.now.problem.now spatial_index.new) }
 {
-    match seed(problem, movable, words[0]) {
-        Some(center) => ruined_around(alloc, problem, pins, draft, spatial_index, center, words),
+    match seed(context.problem, movable, words[0]) {
+        Some(center) => ruined_around(alloc, context, draft, spatial_index, center, words),
         None => Ok(Vec::new(alloc)),
     }
 }
@@ -85,21 +86,22 @@ fn drawn_stop(problem: &Problem, name: u32, rest: u32) -> Option<&Stop>
 
 fn ruined_around(
     alloc: Global,
-    problem: &Problem,
-    pins: &Pins,
+    context: &SearchContext,
     draft: &Draft,
     spatial_index: &mut SpatialIndex,
     center: &Stop,
     words: &[u32; 16],
 ) -> Result<Vec<u32>, OutOfMemory>
-    requires draft { IsDraftOf problem.now pins.now.routes draft.now }
+    requires draft { IsDraftOf context.now.problem.now context.now.pins.now.routes draft.now }
     requires center { HasValidCoordinates center.now }
-    requires known { stop_at problem.now center.now.number ≡ Some center.now }
-    requires nearest_stops { AreNearestStopLists problem.now spatial_index.old }
-    ensures names { IfOk result (λ names. names.items
-        ≡ ruined_around problem.now pins.now.routes (draft_of draft.now) words.now center.now) }
-    ensures nearest_stops { OnOk result (AreNearestStopLists problem.now spatial_index.new) }
+    requires known { stop_at context.now.problem.now center.now.number ≡ Some center.now }
+    requires nearest_stops { AreNearestStopLists context.now.problem.now spatial_index.old }
+    ensures names { let c = context.now in IfOk result (λ names. names.items
+        ≡ ruined_around c.problem.now c.pins.now.routes (draft_of draft.now) words.now center.now) }
+    ensures nearest_stops { OnOk result
+        (AreNearestStopLists context.now.problem.now spatial_index.new) }
 {
+    let SearchContext { problem, pins, .. } = *context;
     let longest = longest(draft);
     let count = route_count(longest, words[1]);
     let nears = routes_around(alloc, problem, draft, spatial_index, center, count)?;

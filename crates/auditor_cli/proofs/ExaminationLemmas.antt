@@ -1,4 +1,4 @@
--- Lemmas about the answers for examined texts.
+-- The answer for an examination is the answer of the audit, and its verdict is the one for some printed cost.
 use Rattle.std.proofs.Common.{◌≡◌, ℕ, Bool, true, false, List, inl, inr}
 use Rattle.plan_audit.specs.Laws.{RoutesAreJudgedByTrueCost}
 use Rattle.route_sched.specs.Cost.{total_length}

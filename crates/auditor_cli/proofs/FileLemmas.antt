@@ -1,4 +1,4 @@
--- Lemmas about the lines for two files. They hold for any answer to the texts of the files.
+-- Lemmas about the lines that are printed for two files, for any relation between their texts and the answer.
 use Rattle.std.proofs.Common.{◌≡◌, ℕ, List, Option, refl, inl, inr, subst}
 use Rattle.std.specs.declared.io.ErrorKind.{ErrorKind}
 use Rattle.auditor_cli.specs.Files.{AreBothRead, IsUnread, PrintsFilesBy, PrintsTextsBy}
@@ -11,7 +11,7 @@ module _ (IsAnswered : List ℕ → List ℕ → AuditAnswer → Type 0) (instan
       → PrintsFilesBy IsAnswered instance solution was now before after status
   unread_reported path kind unread reported = (read_failure_line path kind, inr (path, kind, unread, refl, reported.0), reported.1)
 
-  -- The texts are passed on as slices of the bytes that were read.
+  -- The texts are slices of the bytes that were read, and so equal to them.
   pub texts_reported : (x y text other : List ℕ) → text ≡ x → other ≡ y → AreBothRead instance solution x y was now → PrintsTextsBy IsAnswered text other before after status
       → PrintsFilesBy IsAnswered instance solution was now before after status
   texts_reported x y text other is_x is_y both reported =

@@ -39,7 +39,7 @@ read_in_turn instance solution was now (inr unread) = first_unread unread.2
     first_unread (inl one) = ((instance, Err unread.1) ∷ [], one.1)
     first_unread (inr two) = ((solution, Err unread.1) ∷ (instance, Ok two.1.0) ∷ [], two.1.1)
 
--- If a line of the list names these files, their result is the result for the line.
+-- If a line of the list names these files, the answer for them is the answer for the line.
 pub reported_of_listed : (routes_alone : Bool) (k other : Format) → other ≡ k → (path l instance solution : List ℕ) (best : Option BestCost)
     → IsListedPair k l instance solution best → (was now : ListState) (answer : List ℕ) (status : ℕ)
     → now.lines ≡ next_number was.lines
@@ -57,7 +57,7 @@ reported_of_listed routes_alone k other same path l instance solution best names
 
 module _ {S : Type 0} (IsPrintedFor : List ℕ → S → S → List ℕ → ℕ → Type 0) where
   module _ (all : List (List ℕ)) (was : S) (before : Option (List ℕ)) where
-    -- This text was printed so far, and the results of the remaining lines complete it.
+    -- This text was printed so far. The texts of the remaining lines complete it to the text of all lines.
     pub record IsSoFar (next : S) (now : Option (List ℕ)) (left : List (List ℕ)) (n : ℕ) : Type 0 where
       pub text : List ℕ
       pub written : Appends before now text

@@ -1,4 +1,5 @@
--- Lemmas about a verdict and the rules on stops, and about the routes of a partial plan.
+-- If a verdict reports none of the rules on stops, they are kept. The stops of a partial plan are known and
+-- distinct.
 use Rattle.std.proofs.Common.{◌≡◌, ℕ, ◌<◌, true, List, [], All, inl, inr, arith, subst, sym}
 use Rattle.std.proofs.lemmas.Bool.{ltb-true}
 use Rattle.plan_types.specs.Instance.{Instance}
@@ -21,7 +22,7 @@ stops_kept p routes (Broken rule q j t) is kept m r i n from to b =
     let above : 8 < rule = ltb-true 8 rule kept in
     elim (is.2.least m r i n from (omega (arith, to)) b) [ inl less ↦ omega (arith, number, above, to, less) | inr same ↦ (let e = same.0 in omega (arith, number, above, to, e)) ]
 
--- The routes of a partial plan have current stops, each once.
+-- The routes of a partial plan have stops of current requests, each once.
 pub partial_live : (format : Format) (instance solution : List ℕ) (partial : PartialPlan) → ArePartial format instance solution partial → All (AreDistinctStops partial.problem) partial.plan.routes
 partial_live format instance solution partial are = by are.routes are.is_partial
   where

@@ -55,7 +55,7 @@ use Rattle.auditor_cli.specs.Messages.{PrintsReadFailure, read_failure_line, rea
 use Rattle.auditor_cli.proofs.ListLemmas.{grown_twice, lines_as, read_as}
 
 module _ {S : Type 0} (IsPrintedFor : List ℕ → S → S → List ℕ → ℕ → Type 0) where
-  -- Lines that were printed, and one more line, are printed lines.
+  -- If lines were processed, and then one more line, all of them were processed in order.
   pub one_more_line : (ls : List (List ℕ)) (l : List ℕ) (was next later : S) (text more : List ℕ) (n s : ℕ) → ArePrinted IsPrintedFor ls was next text n → IsPrintedFor l next later more s
       → ArePrinted IsPrintedFor (ls ++ l ∷ []) was later (text ++ more) (max n s)
   one_more_line [] l was next later text more n s reported line =
@@ -129,7 +129,7 @@ lines_so_far lines h =
 -- ---- The list was read before other files
 
 module _ (path : List ℕ) (was : List FileRead) where
-  -- Before the first turn nothing was read. After it, the list was the first file that was read.
+  -- Before the first turn of the loop nothing was read. After it, the list was the first file that was read.
   abbrev pub IsFirstIn : ℕ → List FileRead → Type 0
   IsFirstIn turns next = ((turns ≡ 0) × (next ≡ was)) ⊎ IsReadFirst path was next
 
@@ -143,7 +143,7 @@ module _ (path : List ℕ) (was : List FileRead) where
 
 -- ---- The list so far
 
--- The result for the line that was passed on is the result for the line that was read.
+-- The answers for the lines that the loop processes are those for the lines of the text that was read.
 pub reported_of_line : (routes_alone : Bool) (k : Format) (path : List ℕ) (next mid later : ListState) (now after : Option (List ℕ)) (line : List ℕ)
     (lines : List (List ℕ)) (s : ℕ) → mid ≡ read_more (path, Ok line) next → lines ≡ lines_of line
     → PrintsLines (IsAudited routes_alone k path) lines mid later now after s → PrintsLines (IsAudited routes_alone k path) (lines_of line) (read_more (path, Ok line) next) later now after s
@@ -152,6 +152,8 @@ reported_of_line routes_alone k path next mid later now after line lines s noted
     (lines_as (IsAudited routes_alone k path) lines (lines_of line) mid later now after s are reported)
 
 module _ (routes_alone : Bool) (k : Format) (path : List ℕ) (was : ListState) (before : Option (List ℕ)) where
+  -- These lines of the list were read and answered, and this text was printed for them, with n as the greatest
+  -- status.
   pub record IsSoFar (next : ListState) (now : Option (List ℕ)) (n : ℕ) : Type 0 where
     pub lines : List (List ℕ)
     pub ended_lines : All IsEnded lines
@@ -163,7 +165,7 @@ module _ (routes_alone : Bool) (k : Format) (path : List ℕ) (was : ListState) 
   nothing_taken = record { lines = []; ended_lines = All-nil IsEnded; text = []; reported = (refl, refl, refl); written = Appends-nil before }
 
   module _ (next later : ListState) (now after : Option (List ℕ)) (n : ℕ) (so_far : IsSoFar next now n) where
-    -- A line was read and its result was printed.
+    -- One more line was read, and its answer was printed.
     pub one_more : (line : List ℕ) (s : ℕ) → IsEnded line
         → PrintsLines (IsAudited routes_alone k path) (lines_of line) (read_more (path, Ok line) next) later now after s → IsSoFar later after (max n s)
     one_more line s is reported = record {
@@ -174,7 +176,7 @@ module _ (routes_alone : Bool) (k : Format) (path : List ℕ) (was : ListState) 
       written = Appends-trans before now after so_far.text reported.0 so_far.written reported.2;
     }
 
-    -- The last part of the list, without a line feed, was read and its result was printed.
+    -- The last part of the list, which has no line feed, was read, and its answer was printed.
     pub at_end : (last : List ℕ) (s : ℕ) → HasNoLineFeed last → PrintsLines (IsAudited routes_alone k path) (lines_of last) (read_more (path, Ok last) next) later now after s
         → PrintsListRead routes_alone k path was later before after (max n s)
     at_end last s none reported = (
@@ -190,7 +192,7 @@ module _ (routes_alone : Bool) (k : Format) (path : List ℕ) (was : ListState) 
       Appends-trans before now after so_far.text reported.0 so_far.written reported.2,
     )
 
-    -- The case that the rest of the list can't be read.
+    -- If the rest of the list can't be read, the line that says so ends the output.
     pub broken_off : (error : ErrorKind) (status : ℕ) → later ≡ read_more (path, Err error) next → status ≡ max n (read_failure_status error) → Appends now after (read_failure_line path error)
         → PrintsListRead routes_alone k path was later before after status
     broken_off error status noted is written = (
@@ -211,7 +213,7 @@ module _ (routes_alone : Bool) (k : Format) (path : List ℕ) (was : ListState) 
       Appends-trans before now after so_far.text (read_failure_line path error) so_far.written written,
     )
 
--- The case that the list can't be opened.
+-- If the list can't be opened, the line that says so is the whole output.
 pub unopened : (routes_alone : Bool) (k : Format) (path : List ℕ) (was now : ListState) (before after : Option (List ℕ)) (error : ErrorKind) (status : ℕ)
     → now ≡ read_more (path, Err error) was → PrintsReadFailure path error before after status
     → PrintsListRead routes_alone k path was now before after status

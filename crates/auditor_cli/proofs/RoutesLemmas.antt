@@ -61,7 +61,7 @@ lines_have_none : (text : List ℕ) → All HasNoLineFeed (lines_of text)
 unfolding lines_of
 lines_have_none text = all_stripped _ (pieces_are_cut text).0
 
--- ---- A line with a carriage return and a line feed is read back
+-- ---- A line that is written with a carriage return and a line feed is read back without them
 
 none_before : (l : List ℕ) → HasNoLineFeed l → HasNoLineFeed (l ++ 13 ∷ [])
 none_before l none (k, lt, here) = elim (cases_lt k (length l)) [

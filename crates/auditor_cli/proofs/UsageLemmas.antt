@@ -5,7 +5,7 @@ use Rattle.clap.specs.declared.error.kind.ErrorKind.{ErrorKind}
 use Rattle.clap.specs.declared.error.kind.ErrorKind.TheVariants.{DisplayHelp, DisplayVersion, OutOfMemory}
 use Rattle.command_line.specs.Invocations.{IsUsageStatus, usage_status_of}
 
--- The status is 4, and both streams stay as they were.
+-- If memory ran out, the status is 4, and nothing was printed on either stream.
 pub no_memory_reported : {E W V : Type 0} (kind : ErrorKind) (reported : Result ℕ E) (status : ℕ) (old new : W) (before after : V) → kind ≡ OutOfMemory
     → (kind ≡ OutOfMemory → reported ≡ Ok 4) → (usage_status_of kind ≢ 0 → new ≡ old) → (usage_status_of kind ≢ 64 → after ≡ before)
     → MatchResult reported (λ s. status ≡ s) (λ e. status ≡ 3) → (status ≡ 4) × (new ≡ old) × (after ≡ before)
@@ -22,7 +22,7 @@ usage_statuses DisplayVersion = inl refl
 usage_statuses OutOfMemory = inr (inl refl)
 usage_statuses _ = inr (inr refl)
 
--- The status is 0 only if help was requested. The status determines which of the streams stay as they were.
+-- The status is 0 only if help was requested. The status determines which of the streams are unchanged.
 pub usage_reported : {E W V N : Type 0} (is_help : Bool) (kind : ErrorKind) (reported : Result ℕ E) (status : ℕ) (old new : W) (before after : V)
     → (kind ≡ OutOfMemory) ⊎ (N × ((is_help ≡ true) ⊎ (usage_status_of kind ≡ 64))) → IfOk reported (λ s. s ≡ usage_status_of kind) → (usage_status_of kind ≢ 0 → new ≡ old)
     → (usage_status_of kind ≢ 64 → after ≡ before) → MatchResult reported (λ s. status ≡ s) (λ e. status ≡ 3)

@@ -19,22 +19,22 @@ use Rattle.auditor_cli.specs.AnswerText.{broken_text, fault_text, pass_text}
 use Rattle.auditor_cli.specs.RoutesAlone.{routes_text}
 use Rattle.auditor_cli.specs.declared.answer.AuditAnswer.{AuditAnswer}
 
--- The answer for a text that is refused.
+-- The answer for a text that is refused: `TEXT NAME LINE`, with status 2.
 abbrev pub refused_answer : List ℕ → List ℕ → ℕ → AuditAnswer
 refused_answer text name line = record { line = fault_text text name line; status = 2 }
 
--- The answer for a verdict.
+-- The answer for a verdict: status 0 for a pass, 1 for a broken rule.
 abbrev pub verdict_answer : Verdict → AuditAnswer
 verdict_answer (Pass cost) = record { line = pass_text cost; status = 0 }
 verdict_answer (Broken rule route place stop) = record { line = broken_text rule route place stop; status = 1 }
 
--- The instance spells no problem, and the answer names its first fault.
+-- The instance has a fault, and the answer names its first one.
 pub record RefusesInstance (format : Format) (instance : List ℕ) (answer : AuditAnswer) : Type 0 where
   pub fault : ReadFault
   pub first : IsFirstFault (InstanceFault format instance) fault
   pub reported : answer ≡ refused_answer (codes "instance") (instance_names.kind_name fault.kind) fault.line
 
--- The instance spells a problem, and the solution is refused.
+-- The instance spells a problem, the solution has a fault, and the answer names its first one.
 pub record RefusesSolution (format : Format) (instance solution : List ℕ) (answer : AuditAnswer) : Type 0 where
   pub problem : Instance
   pub spelled : SpellsInstance format instance problem
@@ -42,17 +42,18 @@ pub record RefusesSolution (format : Format) (instance solution : List ℕ) (ans
   pub first : sol_faults.IsFirstFault solution fault
   pub reported : answer ≡ refused_answer (codes "solution") (solution_names.kind_name fault.kind) fault.line
 
--- The verdict on a solution.
+-- The verdict is the one on this solution of the problem, with its printed cost.
 abbrev pub IsSolutionVerdict : Instance → Solution → Verdict → Type 0
 IsSolutionVerdict problem plan verdict = IsVerdict problem (printed plan.routes plan.cost) verdict
 
--- The answer is that of a verdict on this problem and this solution.
+-- The answer is that of the verdict on this solution of the problem.
 pub record AnswersVerdict (problem : Instance) (plan : Solution) (answer : AuditAnswer) : Type 0 where
   pub verdict : Verdict
   pub is_verdict : IsSolutionVerdict problem plan verdict
   pub reported : answer ≡ verdict_answer verdict
 
--- Both texts can be read, and the answer is that of the verdict on the problem and the solution.
+-- The instance spells a problem and the solution spells a plan, and the answer is that of the verdict on these
+-- two.
 pub record Judges (format : Format) (instance solution : List ℕ) (answer : AuditAnswer) : Type 0 where
   pub problem : Instance
   pub problem_spelled : SpellsInstance format instance problem
@@ -61,17 +62,18 @@ pub record Judges (format : Format) (instance solution : List ℕ) (answer : Aud
   pub plan_spelled : sol_faults.Spells solution plan
   pub verdict : AnswersVerdict problem plan answer
 
--- The answer to the audit of a solution against an instance of this kind.
+-- The answer to the audit of a solution against an instance in this format.
 abbrev pub IsAnswer : Format → List ℕ → List ℕ → AuditAnswer → Type 0
 IsAnswer format instance solution answer = RefusesInstance format instance answer ⊎ (RefusesSolution format instance solution answer ⊎ Judges format instance solution answer)
 
--- If the texts spell a problem and a solution, the answer is that of a verdict on these two.
+-- If the instance spells a problem and the solution spells a plan, the answer is that of the verdict on these
+-- two.
 abbrev pub JudgesSpelled : Format → List ℕ → List ℕ → AuditAnswer → Type 0
 JudgesSpelled format instance solution answer =
     (problem : Instance) (plan : Solution) → SpellsInstance format instance problem → sol_faults.Spells solution plan → AnswersVerdict problem plan answer
 
--- Both texts can be read, and the solution is sound, serves each request, uses no more vehicles than there are,
--- and prints its true distance.
+-- Both texts can be parsed, and the solution is sound, serves each request, uses no more vehicles than there
+-- are, and prints its true distance.
 pub record AreSound (format : Format) (instance solution : List ℕ) : Type 0 where
   pub problem : Instance
   pub problem_spelled : SpellsInstance format instance problem
@@ -82,13 +84,14 @@ pub record AreSound (format : Format) (instance solution : List ℕ) : Type 0 wh
   pub fleet : used_count plan.routes ≤ problem.fleet
   pub distance : plan.cost ≡ total_length problem plan.routes
 
--- The status is 0 exactly if the texts are sound in this sense.
+-- The status is 0 exactly if both texts can be parsed and the solution is sound in the sense of `AreSound`.
 abbrev pub SaysSound : Format → List ℕ → List ℕ → AuditAnswer → Type 0
 SaysSound format instance solution answer = (answer.status ≡ 0) ↔ AreSound format instance solution
 
 -- ---- The routes only
 
--- Both texts can be read, whatever cost is printed, and the answer is that of the verdict on the routes.
+-- Both texts can be parsed, whatever cost line the solution has, and the answer is that of the verdict on the
+-- routes.
 pub record JudgesRoutes (format : Format) (instance solution : List ℕ) (answer : AuditAnswer) : Type 0 where
   pub problem : Instance
   pub problem_spelled : SpellsInstance format instance problem
@@ -99,13 +102,13 @@ pub record JudgesRoutes (format : Format) (instance solution : List ℕ) (answer
   pub is_verdict : IsRoutesVerdict problem plan.routes verdict
   pub reported : answer ≡ verdict_answer verdict
 
--- The answer to the audit of the routes of a solution, which needs no cost line.
+-- The answer to the audit of only the routes of a solution, which needs no cost line.
 abbrev pub IsRoutesAnswer : Format → List ℕ → List ℕ → AuditAnswer → Type 0
 IsRoutesAnswer format instance solution answer =
     RefusesInstance format instance answer
     ⊎ (RefusesSolution format instance (routes_text solution) answer ⊎ JudgesRoutes format instance solution answer)
 
--- Both texts can be read, and the routes are sound, serve each request, and use no more vehicles than there
+-- Both texts can be parsed, and the routes are sound, serve each request, and use no more vehicles than there
 -- are.
 pub record HasSoundRoutes (format : Format) (instance solution : List ℕ) : Type 0 where
   pub problem : Instance
@@ -116,11 +119,11 @@ pub record HasSoundRoutes (format : Format) (instance solution : List ℕ) : Typ
   pub complete : AreAllPlanned problem plan.routes
   pub fleet : used_count plan.routes ≤ problem.fleet
 
--- The status is 0 exactly if the routes are sound in this sense.
+-- The status is 0 exactly if both texts can be parsed and the routes are sound in the sense of `HasSoundRoutes`.
 abbrev pub SaysRoutesSound : Format → List ℕ → List ℕ → AuditAnswer → Type 0
 SaysRoutesSound format instance solution answer = (answer.status ≡ 0) ↔ HasSoundRoutes format instance solution
 
--- The answer to the audit of a solution, or only of its routes.
+-- The answer to the audit of a solution (false), or only of its routes (true).
 abbrev pub IsAnswerBy : Bool → Format → List ℕ → List ℕ → AuditAnswer → Type 0
 IsAnswerBy false format instance solution answer = IsAnswer format instance solution answer
 IsAnswerBy true format instance solution answer = IsRoutesAnswer format instance solution answer

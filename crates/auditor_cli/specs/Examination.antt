@@ -23,14 +23,15 @@ pub record IsBadSolution (format : Format) (instance solution : List ℕ) (fault
   pub spelled : SpellsInstance format instance problem
   pub first : sol_faults.IsFirstFault solution fault
 
--- Both texts can be read, and this is the verdict on the problem and the solution.
+-- Both texts can be parsed: they spell this problem and this plan, and this is the verdict on the two.
 pub record IsJudged (format : Format) (instance solution : List ℕ) (problem : Instance) (plan : Solution) (verdict : Verdict) : Type 0 where
   pub problem_spelled : SpellsInstance format instance problem
   pub problem_kept : IsInstance problem
   pub plan_spelled : sol_faults.Spells solution plan
   pub is_verdict : IsSolutionVerdict problem plan verdict
 
--- The result of examining two texts.
+-- The result of examining an instance and a solution: the first fault of the instance, else that of the
+-- solution, else the verdict.
 abbrev pub IsExamined : Format → List ℕ → List ℕ → Examination → Type 0
 IsExamined format instance solution (BadInstance fault) = IsFirstFault (InstanceFault format instance) fault
 IsExamined format instance solution (BadSolution fault) = IsBadSolution format instance solution fault
@@ -42,7 +43,7 @@ answer_of (BadInstance fault) = refused_answer (codes "instance") (instance_name
 answer_of (BadSolution fault) = refused_answer (codes "solution") (solution_names.kind_name fault.kind) fault.line
 answer_of (Judged problem plan verdict) = verdict_answer verdict
 
--- If both texts can be read, the verdict is that on the problem and the solution.
+-- If both texts could be parsed, the examination has the verdict on the problem and the plan.
 abbrev pub HasVerdict : Examination → Type 0
 HasVerdict (BadInstance fault) = Unit {0}
 HasVerdict (BadSolution fault) = Unit {0}
@@ -50,28 +51,30 @@ HasVerdict (Judged problem plan verdict) = IsSolutionVerdict problem plan verdic
 
 -- ---- The routes only
 
--- Both texts can be read, and this is the verdict on the routes.
+-- Both texts can be parsed: they spell this problem and this plan, and this is the verdict on the plan's routes.
 pub record AreRoutesJudged (format : Format) (instance text : List ℕ) (problem : Instance) (plan : Solution) (verdict : Verdict) : Type 0 where
   pub problem_spelled : SpellsInstance format instance problem
   pub problem_kept : IsInstance problem
   pub plan_spelled : sol_faults.Spells text plan
   pub is_verdict : IsRoutesVerdict problem plan.routes verdict
 
--- The result of examining two texts without regard to the cost.
+-- The result of examining two texts if the printed cost is not checked.
 abbrev pub AreExaminedForRoutes : Format → List ℕ → List ℕ → Examination → Type 0
 AreExaminedForRoutes format instance text (BadInstance fault) = IsFirstFault (InstanceFault format instance) fault
 AreExaminedForRoutes format instance text (BadSolution fault) = IsBadSolution format instance text fault
 AreExaminedForRoutes format instance text (Judged problem plan verdict) = AreRoutesJudged format instance text problem plan verdict
 
--- The result of examining an instance and the routes of a solution, whose cost line may be missing.
+-- The result of examining an instance and the routes of a solution, which may lack its cost line.
 abbrev pub AreRoutesExamined : Format → List ℕ → List ℕ → Examination → Type 0
 AreRoutesExamined format instance solution examined = AreExaminedForRoutes format instance (routes_text solution) examined
 
+-- The result of examining an instance and a solution (false), or only the routes of the solution (true).
 abbrev pub IsExaminedBy : Bool → Format → List ℕ → List ℕ → Examination → Type 0
 IsExaminedBy false format instance solution examined = IsExamined format instance solution examined
 IsExaminedBy true format instance solution examined = AreRoutesExamined format instance solution examined
 
--- If both texts can be read, the verdict is that on the problem and on these routes with some printed cost.
+-- If both texts could be parsed, the examination has the verdict on the problem and on these routes with some
+-- printed cost.
 abbrev pub HasVerdictForSomeCost : Examination → Type 0
 HasVerdictForSomeCost (BadInstance fault) = Unit {0}
 HasVerdictForSomeCost (BadSolution fault) = Unit {0}

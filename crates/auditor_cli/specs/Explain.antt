@@ -17,26 +17,27 @@ use Rattle.auditor_cli.specs.declared.audit.Examination.{Examination}
 use Rattle.auditor_cli.specs.declared.audit.Examination.TheVariants.{BadInstance, BadSolution, Judged}
 use Rattle.auditor_cli.specs.declared.explain.Explanation.{Explanation}
 
--- The line with the distance of the routes, if they can be parsed.
+-- The line with the distance of the routes, or nothing if they could not be parsed or their distance is not
+-- known.
 abbrev pub distance_of_routes : Examination → List ℕ
 distance_of_routes (Judged problem plan verdict) = distance_text problem plan.routes verdict
 distance_of_routes (BadSolution fault) = []
 distance_of_routes (BadInstance fault) = []
 
--- This text has the distance of a solution's routes, whatever cost the solution prints.
+-- The text is the line with the distance of a solution's routes, whatever its cost line is.
 pub record GivesRoutesDistance (format : Format) (instance solution text : List ℕ) : Type 0 where
   pub routes : Examination
   pub are_routes : IsExaminedBy true format instance solution routes
   pub driven : text ≡ distance_of_routes routes
 
--- The explanation of a solution that has this fault, and the distance of its routes.
+-- The text explains this fault of a solution, and then has the distance of its routes.
 pub record RestsOnFault (format : Format) (instance solution : List ℕ) (fault : SolFault) (text : List ℕ) : Type 0 where
   pub routes : Examination
   pub are_routes : IsExaminedBy true format instance solution routes
   pub reported : text ≡ solution_fault_text solution fault ++ distance_of_routes routes
 
--- The explanation of the answer for two texts, of which the instance was read as this format: a fault and its
--- line, or the values that the verdict is based on.
+-- The text explains the answer for the examined texts: by a fault and its line, or by the values that the
+-- verdict is based on.
 abbrev pub RestsOn : Format → List ℕ → List ℕ → Examination → List ℕ → Type 0
 RestsOn format instance solution (BadInstance fault) text = text ≡ instance_fault_text format instance fault
 RestsOn format instance solution (BadSolution fault) text = RestsOnFault format instance solution fault text
@@ -53,38 +54,42 @@ pub record IsExplanation (routes_alone : Bool) (format : Format) (instance solut
 abbrev pub answer_and_text : Explanation → List ℕ
 answer_and_text explanation = with_line_feed explanation.answer.line ++ string_bytes explanation.text
 
+-- The output for an explanation: the answer with it, or `out of memory`.
 abbrev pub explanation_text : {E : Type 0} → Result Explanation E → List ℕ
 explanation_text (Ok explanation) = answer_and_text explanation
 explanation_text (Err e) = with_line_feed (codes "out of memory")
 
+-- The exit status for an explanation: that of the answer, or 4 if memory ran out.
 abbrev pub explanation_status : {E : Type 0} → Result Explanation E → ℕ
 explanation_status (Ok explanation) = explanation.answer.status
 explanation_status (Err e) = 4
 
+-- The answer with its explanation, or `out of memory`, was appended to the output.
 abbrev pub PrintsExplanationResult : {E : Type 0} → Result Explanation E → Option (List ℕ) → Option (List ℕ) → ℕ → Type 0
 PrintsExplanationResult explained before after status = (status ≡ explanation_status explained) × Appends before after (explanation_text explained)
 
--- Two texts are explained. The answer is that of their audit.
+-- The answer for the instance x and the solution y was printed with its explanation, or `out of memory`.
 pub record ExplainsTexts (routes_alone : Bool) (k : Format) (x y : List ℕ) (before after : Option (List ℕ)) (status : ℕ) : Type 0 where
   pub explained : Result Explanation AllocError
   pub answers : IfOk explained (λ explanation. IsAnswerBy routes_alone k x y explanation.answer)
   pub explains : IfOk explained (IsExplanation routes_alone k x y)
   pub reported : PrintsExplanationResult explained before after status
 
--- Both files were read, and their texts were explained.
+-- Both files were read, and the answer for their texts was printed with its explanation.
 pub record ExplainsBothRead (routes_alone : Bool) (k : Format) (instance solution : List ℕ) (was now : List FileRead) (before after : Option (List ℕ)) (status : ℕ) : Type 0 where
   pub x : List ℕ
   pub y : List ℕ
   pub read : AreBothRead instance solution x y was now
   pub texts : ExplainsTexts routes_alone k x y before after status
 
--- One of the files could not be read.
+-- One of the files can't be read, and a line that says so was printed.
 pub record PrintsUnreadFile (instance solution : List ℕ) (was now : List FileRead) (before after : Option (List ℕ)) (status : ℕ) : Type 0 where
   pub path : List ℕ
   pub error : ErrorKind
   pub unread : IsUnread instance solution path error was now
   pub reported : PrintsReadFailure path error before after status
 
+-- The answer for two files was printed with its explanation, or the line for a file that can't be read.
 abbrev pub ExplainsFiles : Bool → Format → List ℕ → List ℕ → List FileRead → List FileRead → Option (List ℕ) → Option (List ℕ) → ℕ → Type 0
 ExplainsFiles routes_alone k instance solution was now before after status =
     ExplainsBothRead routes_alone k instance solution was now before after status ⊎ PrintsUnreadFile instance solution was now before after status

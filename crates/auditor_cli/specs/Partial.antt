@@ -20,13 +20,13 @@ use Rattle.auditor_cli.specs.declared.partial.PartialPlan.{PartialPlan}
 use Rattle.auditor_cli.specs.declared.partial.PlanExamination.{PlanExamination}
 use Rattle.auditor_cli.specs.declared.partial.PlanExamination.TheVariants.{Partial, Whole}
 
--- The verdict names none of the rules 1 to 8, which concern stops and returns.
+-- The verdict reports none of the rules 1 to 8, which concern stops and returns.
 abbrev pub keeps_stops : Verdict → Bool
 keeps_stops (Pass cost) = true
 keeps_stops (Broken rule route place stop) = nat_lt (rule_number LateReturn) rule
 
--- The routes keep the rules on stops, so each request is served completely or not at all. They use no more
--- vehicles than there are, and at least one request is left out.
+-- The routes keep rules 1 to 8, so each request is served completely or not at all. They use no more vehicles
+-- than there are, and leave out at least one request.
 pub record IsPartialPlan (p : Instance) (routes : List (List ℕ)) : Type 0 where
   pub stops : KeepsRules 1 8 p (planned routes [])
   pub fleet : used_count routes ≤ p.fleet
@@ -37,18 +37,18 @@ pub record IsCostOfPartial (p : Instance) (routes : List (List ℕ)) (cost : Cos
   pub is_partial : IsPartialPlan p routes
   pub costs : cost ≡ cost_of p routes
 
--- The partial plan that the routes form.
+-- The examined routes form this partial plan.
 abbrev pub IsPartialOf : Examination → PartialPlan → Type 0
 IsPartialOf (Judged problem printed verdict) partial = (partial.problem ≡ problem) × (partial.plan.routes ≡ printed.routes) × IsCostOfPartial problem printed.routes partial.cost
 IsPartialOf _ partial = ⊥
 
--- The routes form no partial plan.
+-- The examined routes form no partial plan.
 abbrev pub IsNotPartial : Examination → Type 0
 IsNotPartial (Judged problem printed verdict) = IsPartialPlan problem printed.routes → ⊥
 IsNotPartial _ = Unit {0}
 
--- The instance spells a problem, the solution only lacks its cost line, and its routes are a partial plan of the
--- problem.
+-- The instance spells a problem, the solution only lacks its cost line, and its routes form this partial plan of
+-- the problem.
 pub record ArePartial (format : Format) (instance solution : List ℕ) (partial : PartialPlan) : Type 0 where
   pub fault : SolFault
   pub refused : IsBadSolution format instance solution fault
@@ -57,30 +57,30 @@ pub record ArePartial (format : Format) (instance solution : List ℕ) (partial 
   pub are_routes : AreRoutesExamined format instance solution routes
   pub is_partial : IsPartialOf routes partial
 
--- The routes of the solution are not a partial plan of the instance's problem.
+-- The routes of the solution form no partial plan of the problem.
 pub record AreNotPartial (format : Format) (instance solution : List ℕ) : Type 0 where
   pub routes : Examination
   pub are_routes : AreRoutesExamined format instance solution routes
   pub is_not_partial : IsNotPartial routes
 
--- If a solution only lacks its cost line, its routes are not a partial plan.
+-- If the only fault of the solution is that it lacks its cost line, its routes form no partial plan.
 abbrev pub HasNoPartialPlan : Format → List ℕ → List ℕ → Examination → Type 0
 HasNoPartialPlan format instance solution (BadSolution fault) = fault.kind ≡ NoCost → AreNotPartial format instance solution
 HasNoPartialPlan format instance solution _ = Unit {0}
 
--- The result of examining two texts, of which the second one may be a partial plan.
+-- The result of examining an instance and a solution that may be a partial plan.
 abbrev pub IsPlanExamined : Format → List ℕ → List ℕ → PlanExamination → Type 0
 IsPlanExamined format instance solution (Partial partial) = ArePartial format instance solution partial
 IsPlanExamined format instance solution (Whole examined) = IsExamined format instance solution examined × HasNoPartialPlan format instance solution examined
 
--- The answer for a partial plan. It has the status of a broken rule.
+-- The answer for a partial plan with this cost. It has status 1, like that for a broken rule.
 abbrev pub partial_answer : Cost → AuditAnswer
 partial_answer cost = record { line = partial_text cost; status = 1 }
 
--- The texts are a partial plan, and this is the answer.
+-- The solution is a partial plan, and this is the answer for it.
 abbrev pub IsPartialAnswer : Format → List ℕ → List ℕ → AuditAnswer → Type 0
 IsPartialAnswer format instance solution answer = (partial : PartialPlan) × ArePartial format instance solution partial × (answer ≡ partial_answer partial.cost)
 
--- The answer of an audit, or for a partial plan.
+-- The answer of the audit, or the answer for a partial plan.
 abbrev pub IsPlanAnswer : Format → List ℕ → List ℕ → AuditAnswer → Type 0
 IsPlanAnswer format instance solution answer = IsAnswer format instance solution answer ⊎ IsPartialAnswer format instance solution answer

@@ -13,16 +13,19 @@ use Rattle.auditor_cli.specs.Audits.{PrintsList}
 use Rattle.auditor_cli.specs.Reads.{FileRead, IsReadFirst}
 use Rattle.auditor_cli.specs.Messages.{PrintsAudit, example_instance, example_solution}
 
--- The files that were read, newest first, and what the output and standard error hold.
+-- The files that were read, newest first, and the contents of the output and of standard error, if they are
+-- known.
 pub record World : Type 0 where
   pub files : List FileRead
   pub output : Option (List ℕ)
   pub errors : Option (List ℕ)
 
+-- The world with these files and contents.
 abbrev pub world : List FileRead → Option (List ℕ) → Option (List ℕ) → World
 world files output errors = record { files = files; output = output; errors = errors }
 
--- The files that a subcommand reads, even if an answer can't be printed.
+-- The reads of a subcommand: both files in their order, the list before any other file, or none. This holds even
+-- if an answer can't be printed.
 abbrev pub AreReadFor : InvocationValue → List FileRead → List FileRead → Type 0
 AreReadFor (audit paths routes_alone) was now = AreReadInTurn paths.instance paths.solution was now
 AreReadFor (audits format list routes_alone) was now = IsReadFirst list was now
@@ -33,7 +36,7 @@ AreReadFor _ was now = now ≡ was
 abbrev pub planner_only_line : List ℕ
 planner_only_line = with_line_feed (codes "auditor: only planner has this command; auditor has audit, audits and explain")
 
--- The subcommand was executed and its answer printed, with this status.
+-- The subcommand was executed, its answer was printed, and it ended with this status.
 abbrev pub Does : InvocationValue → World → World → ℕ → Type 0
 Does built_in old new status = PrintsAudit (format_of LiLim) example_instance example_solution old.output new.output status × (new.errors ≡ old.errors)
 Does (audit paths routes_alone) old new status =
@@ -46,18 +49,20 @@ Does (explain paths routes_alone) old new status =
     × PrintsIgnored paths.format paths.instance paths.solution old.files new.files old.errors new.errors
 Does _ old new status = (status ≡ 64) × ((new.output ≡ old.output) × Appends old.errors new.errors planner_only_line)
 
--- The command line was parsed. If an answer could not be printed, the status is 3.
+-- The parsed command line was executed, and its answer was printed; or an answer could not be printed, and the
+-- status is 3.
 pub record Works (asked : InvocationValue) (old new : World) (status : ℕ) : Type 0 where
   pub does : Does asked old new status ⊎ (status ≡ 3)
   pub reads : AreReadFor asked old.files new.files
 
--- The command line was parsed and executed; or there was no memory to parse it, and nothing was done.
+-- The parsed command line was executed; or memory ran out while it was parsed, so nothing was done and the
+-- status is 4.
 abbrev pub EndsWith : InvocationValue → World → World → ℕ → Type 0
 EndsWith asked old new status = Works asked old new status ⊎ ((status ≡ 4) × (new ≡ old))
 
--- The command line requests help or has an error. No file is read. Help leaves standard error as it was, and an
--- error leaves the output as it was. The status is one of a command line with an error, or 0, which means that
--- help was requested.
+-- The command line requests help or has an error, so no file is read. Help leaves standard error unchanged, and
+-- a usage error leaves the output unchanged. The status is 0 only if help was requested, otherwise one of
+-- `IsUsageStatus`. Status 4 means that memory ran out and nothing was printed.
 pub record PrintsUsage (asked : List Text) (old new : World) (status : ℕ) : Type 0 where
   pub files : new.files ≡ old.files
   pub help : status ≡ 0 → new.errors ≡ old.errors

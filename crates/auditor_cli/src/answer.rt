@@ -1,7 +1,7 @@
 //! The lines that answer an audit.
 //!
-//! Lines are built with `format!`, whereas a solution is printed number by number, without allocating for each
-//! number.
+//! An answer is one line, so `format!` may allocate for it. A solution is printed number by number instead,
+//! without allocating for each number.
 ghost use Rattle.std.specs.Prelude.{◌≡◌, ◌++◌, ℕ, List, IfOk};
 ghost use Rattle.auditor_cli.specs.AnswerText.{broken_text, fault_text, partial_text, pass_text, planned_text};
 
@@ -64,7 +64,8 @@ impl AuditLine {
 #[derive(Debug, Drop)]
 pub struct AuditAnswer {
     pub line: AuditLine,
-    /// The exit status: 0 for a solution that passes, 1 for a broken rule, 2 for a file that is refused.
+    /// The exit status: 0 for a solution that passes, 1 for a broken rule or a partial plan, 2 for a file that
+    /// is refused.
     pub status: u8,
 }
 
@@ -119,8 +120,8 @@ pub fn broken_line(
     Ok(AuditLine::from(text))
 }
 
-/// Returns the line for a text that is refused: `TEXT NAME LINE`, with the name of its fault. Lines count from
-/// 1.
+/// Returns the line for a file that is refused: `TEXT NAME LINE`. `TEXT` is `instance` or `solution`, `NAME` is
+/// the name of its fault, and lines count from 1.
 pub fn fault_line(
     alloc: Global,
     text: &str,

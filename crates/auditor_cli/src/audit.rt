@@ -1,4 +1,4 @@
-//! The audit of two texts.
+//! The audit of an instance and a solution in memory.
 ghost use Rattle.std.specs.Prelude.{◌≡◌, ◌≢◌, ◌≤◌, IfOk};
 ghost use Rattle.instance_read.specs.Formats.{format_of};
 ghost use Rattle.auditor_cli.specs.Answer.{IsAnswer, IsAnswerBy, IsRoutesAnswer, JudgesSpelled, SaysRoutesSound, SaysSound, refused_answer, verdict_answer};
@@ -21,8 +21,8 @@ use std::alloc::{AllocError, Global};
 /// The line is `pass UNPLANNED VEHICLES DISTANCE` with status 0; or `broken RULE route R place P stop S` with
 /// status 1 for the lowest-numbered broken rule; or `instance NAME LINE` or `solution NAME LINE` with status 2
 /// for a text that is refused, the instance first. So the status is 0 exactly if both texts can be parsed and
-/// the solution is sound, serves every request, uses no more vehicles than there are, and prints its true
-/// distance.
+/// the solution breaks no rule. Such a solution is sound, serves every request, uses no more vehicles than there
+/// are, and prints its true distance.
 ///
 /// # Errors
 ///
@@ -75,9 +75,10 @@ fn audit_both(
 }
 
 /// Audits the routes of a solution against an instance, whatever cost the solution prints. It differs from
-/// `audit_in_format` in two ways: rule 11 is not checked, and the cost line may be missing or hold any word. So the
-/// status is 0 exactly if both texts can be parsed and the routes are sound, serve every request and use no
-/// more vehicles than there are. The line has the true distance of the routes.
+/// `audit_in_format` in two ways: rule 11 is not checked, and the cost line may be missing or have any word. So
+/// the status is 0 exactly if both texts can be parsed and the routes break no other rule. Such routes are
+/// sound, serve every request, and use no more vehicles than there are. After a pass, the line has their true
+/// distance.
 ///
 /// # Errors
 ///
@@ -110,7 +111,7 @@ fn audit_both_routes(
     answer_of(alloc, &examined)
 }
 
-/// Audits a solution, or only its routes.
+/// Audits a solution, or only its routes if `routes_alone` is true.
 pub(crate) fn audit_by(
     alloc: Global,
     format: Format,
@@ -128,14 +129,14 @@ pub(crate) fn audit_by(
     }
 }
 
-/// An instance and a solution that were parsed and audited.
+/// The result of parsing an instance and a solution, and of auditing the solution.
 #[derive(Debug, Drop)]
 pub enum Examination {
     /// The instance is refused.
     BadInstance(ReadFault),
     /// The solution is refused.
     BadSolution(SolFault),
-    /// Both texts were parsed, and this is the verdict.
+    /// Both texts were parsed. Holds the problem, the solution and the verdict.
     Judged(Problem, Solution, Verdict),
 }
 
@@ -194,7 +195,7 @@ fn examine_for_routes(
     Ok(Examination::Judged(problem, solution, verdict))
 }
 
-/// Parses both texts, and audits the solution or only its routes.
+/// Parses both texts, and audits the solution, or only its routes if `routes_alone` is true.
 pub(crate) fn examine_by(
     alloc: Global,
     format: Format,
@@ -211,6 +212,7 @@ pub(crate) fn examine_by(
     }
 }
 
+// Returns an error if memory ran out, since the instance is not refused then.
 fn bad_instance(fault: ReadFault) -> Result<Examination, OutOfMemory>
     ensures { IfOk result (λ examined. (fault.kind ≢ ReadFaultKind.OutOfMemory)
         × (examined ≡ BadInstance fault)) }
@@ -221,6 +223,7 @@ fn bad_instance(fault: ReadFault) -> Result<Examination, OutOfMemory>
     }
 }
 
+// Returns an error if memory ran out, since the solution is not refused then.
 fn bad_solution(fault: SolFault) -> Result<Examination, OutOfMemory>
     ensures { IfOk result (λ examined. (fault.kind ≢ SolFaultKind.OutOfMemory)
         × (examined ≡ BadSolution fault)) }

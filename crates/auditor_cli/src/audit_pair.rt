@@ -23,7 +23,7 @@ pub struct ReadFailure<'a> {
     pub kind: ErrorKind,
 }
 
-/// Reads both files completely, the instance first.
+/// Reads both files completely, the instance first. Ends at the first file that can't be read.
 pub fn read_both<'a, F: ReadFiles>(
     paths: Paths<'a>,
     files: &mut F,
@@ -56,9 +56,9 @@ fn not_read<'a>(path: &'a str, error: &io::Error) -> ReadFailure<'a>
     }
 }
 
-/// Reads both files completely before it parses either, and prints the audit of the solution or only of its
-/// routes. Notes on ignored lines after the solution's cost line, and on an ignored limit of the instance, go to
-/// `errors`.
+/// Reads both files completely before it parses either, prints the audit of the solution or only of its routes,
+/// and returns the status. Notes on ignored lines after the solution's cost line, and on an ignored limit of the
+/// instance, go to `errors`.
 pub fn audit_files<F: ReadFiles, W: Write, E: Write>(
     alloc: Global,
     paths: Paths,

@@ -22,7 +22,8 @@ use std::io::{ErrorKind, Write};
 use std::{io, str};
 use text_lines::Lines;
 
-/// A list, given by the path of its file, and the way in which its lines are audited.
+/// A list of pairs of files by its path, with the format of its instances. If `routes_alone` is true, only
+/// routes are audited.
 #[derive(Clone, Copy)]
 struct AuditList<'a> {
     format: Format,
@@ -30,9 +31,9 @@ struct AuditList<'a> {
     routes_alone: bool,
 }
 
-/// Reads a list line by line, and audits the pair of each line before it reads the next one: each solution, or
-/// only its routes. Prints on `errors`, with the number of the line, why a line is bad, and a note on ignored
-/// lines of a solution. Returns the worst status.
+/// Reads a list line by line, audits the pair of each line before it reads the next line, and returns the worst
+/// status. Audits each solution or only its routes. Prints on `errors`, with the number of the line, why a line
+/// is bad, and a note if a solution has ignored lines.
 pub fn audit_list<F: ReadFiles, W: Write, E: Write>(
     alloc: Global,
     format: Format,
@@ -96,7 +97,7 @@ fn audit_opened<F: ReadFiles, W: Write, E: Write>(
     Err(io::Error::from(ErrorKind::FileTooLarge))
 }
 
-// Prints that the rest of the list can't be read. Returns the worst status.
+// Prints that the rest of the list can't be read, and returns the worst status.
 fn print_list_failure<W: Write>(
     greatest: u8,
     output: &mut W,
@@ -119,7 +120,7 @@ fn ends_at_feed(text: &[u8]) -> bool
     matches!(text, [.., b'\n'])
 }
 
-// Prints the audit of the pair of each line, and flushes it before it goes on to the next line.
+// Prints the audit of the pair of each line, and flushes the output before the next line.
 fn audit_lines<F: ReadFiles, W: Write, E: Write>(
     alloc: Global,
     asked: AuditList<'_>,
@@ -148,6 +149,7 @@ fn audit_lines<F: ReadFiles, W: Write, E: Write>(
     Ok(greatest)
 }
 
+// Returns the number of the next line, which stays at the greatest `u64` once it is reached.
 fn next_number(answered: u64) -> u64
     ensures { result ≡ next_number answered }
 {
@@ -167,7 +169,7 @@ pub fn worse_status(one: u8, other: u8) -> u8
     if one < other { other } else { one }
 }
 
-// Prints the audit of the pair that the line with this number names.
+// Prints the audit of the pair that the line with this number names, or that the line is bad.
 fn audit_line<F: ReadFiles, W: Write, E: Write>(
     alloc: Global,
     asked: AuditList<'_>,
@@ -225,7 +227,7 @@ fn print_bad_line_with_reason<W: Write, E: Write>(
     Ok(status)
 }
 
-/// Prints that a line is bad.
+/// Prints `bad line`.
 pub fn print_bad_line<W: Write>(output: &mut W) -> io::Result<u8>
     ensures { IfOk result (λ status. (status ≡ 2)
         × Appends (W.contents output.old) (W.contents output.new) (with_line_feed (codes "bad line"))) }
@@ -234,7 +236,8 @@ pub fn print_bad_line<W: Write>(output: &mut W) -> io::Result<u8>
     Ok(REFUSED)
 }
 
-/// Returns the paths of an instance and a solution, which are separated by a tab.
+/// Returns the paths of an instance and a solution that a line names, separated by a tab. Returns `None` if the
+/// line is not two such paths in UTF-8.
 pub fn pair_of(line: &[u8]) -> Option<(&str, &str)>
     ensures { MatchOption result (NamesNone line.now) (λ p. IsPair line.now p.0.now p.1.now) }
 {
@@ -251,7 +254,7 @@ pub fn pair_of(line: &[u8]) -> Option<(&str, &str)>
     Some((instance, solution))
 }
 
-// Splits a line at its only tab; `None` if a part is empty.
+// Splits a line at its tab. Returns `None` if a part is empty, or if there is not exactly one tab.
 fn parts_of(line: &[u8]) -> Option<(&[u8], &[u8])>
     ensures { option_map (λ p. (p.0.now, p.1.now)) result ≡ parts_of line.now }
 {
@@ -273,7 +276,7 @@ fn is_path(path: &[u8]) -> bool
     !path.is_empty() && tab_at(path) == path.len()
 }
 
-// Returns the files that a line names, with the best-known cost after them, if there is one.
+// Returns the files that a line names, with the best-known cost after them, if it has one.
 fn listed_pair(format: Format, line: &[u8]) -> Option<ListedPair<'_>>
     ensures { MatchOption result (NamesNone line.now × ComparesNone format line.now)
         (λ pair. (pair.paths.format ≡ format) × IsListedPair format line.now
@@ -299,7 +302,7 @@ fn listed_pair(format: Format, line: &[u8]) -> Option<ListedPair<'_>>
     })
 }
 
-// Returns the paths of an instance and a solution, and a best-known cost, which are separated by tabs.
+// Returns the paths of an instance and a solution, and a best-known cost, separated by tabs.
 fn compared_of(format: Format, line: &[u8]) -> Option<(&str, &str, BestKnown)>
     ensures { MatchOption result (ComparesNone format line.now)
         (λ p. IsComparedPair format line.now p.0.now p.1.now p.2) }

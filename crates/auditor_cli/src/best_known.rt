@@ -1,4 +1,4 @@
-//! Best-known costs: reading one, and comparing a plan's cost with it.
+//! Best-known costs: their syntax, and the comparison of a plan's cost with one.
 ghost use Rattle.std.specs.Prelude.{◌≡◌, IfOk, option_map, string_bytes};
 ghost use Rattle.auditor_cli.specs.BestKnown.{best_among, best_in, best_of, comparison_text, has_tab};
 
@@ -29,11 +29,11 @@ impl Model for BestKnown {
 }
 
 impl BestKnown {
-    /// Reads `DISTANCE`, or for a problem of kind `LiLim` also `VEHICLES DISTANCE`, with blanks between and
-    /// around the words.
+    /// Reads a best-known cost: `DISTANCE`, or for a problem of kind `LiLim` also `VEHICLES DISTANCE`, with
+    /// spaces between and around the words.
     ///
-    /// The distance is written like the cost of a solution, the vehicles as digits only. Returns `None` if the
-    /// distance is 0.
+    /// The distance is written like the cost of a solution, the vehicles as digits only. Returns `None` for any
+    /// other text, and if the distance is 0.
     pub fn read(format: Format, text: &[u8]) -> Option<BestKnown>
         ensures { result ≡ best_in format text.now }
     {
@@ -49,8 +49,8 @@ impl BestKnown {
         }
     }
 
-    /// Returns how a plan's cost compares: ` vehicles +1` if the vehicles differ, otherwise ` gap 1.27`, the
-    /// gap of the distance in percent.
+    /// Returns the comparison of a plan's cost with this cost: ` vehicles +1` if the vehicles differ, otherwise
+    /// ` gap 1.27`, the gap of the distance in percent.
     pub fn comparison(&self, alloc: Global, cost: Cost) -> Result<String, OutOfMemory>
         ensures { IfOk result (λ text. string_bytes text ≡ comparison_text self.now cost) }
     {

@@ -1,9 +1,9 @@
-//! Columns of a line, with tabs between them.
+//! The columns of a line, separated by tabs.
 ghost use Rattle.std.specs.Prelude.{◌≡◌, ◌≤◌, length, option_map};
 ghost use Rattle.std.specs.List.{position_or_len};
 ghost use Rattle.auditor_cli.specs.Columns.{cut, is_tab};
 
-/// Splits a text at its first tab.
+/// Returns the parts before and after the first tab, or `None` if there is no tab.
 pub(crate) fn cut(text: &[u8]) -> Option<(&[u8], &[u8])>
     ensures { option_map (λ p. (p.0.now, p.1.now)) result ≡ cut text.now }
 {

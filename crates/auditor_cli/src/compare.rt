@@ -30,9 +30,9 @@ pub struct ListedPair<'a> {
     pub best: Option<BestKnown>,
 }
 
-/// Reads both files completely before it parses either, and prints their audit. After a pass, prints how the
-/// cost compares with the best-known one. Prints a note on `errors` if the solution has ignored lines after its
-/// cost line.
+/// Reads both files completely before it parses either, and prints their audit. After a pass, it prints how the
+/// cost compares with the best-known cost, if there is one. Prints a note on `errors` if the solution has
+/// ignored lines after its cost line.
 pub(crate) fn compare_files<F: ReadFiles, W: Write, E: Write>(
     alloc: Global,
     pair: &ListedPair<'_>,
@@ -95,7 +95,7 @@ fn print_listed<W: Write, E: Write>(
     Ok(status)
 }
 
-// Prints the audit of both texts.
+// Prints the audit of both texts, compared with the best-known cost if there is one.
 fn print_answer<W: Write>(
     alloc: Global,
     pair: &ListedPair<'_>,
@@ -113,7 +113,7 @@ fn print_answer<W: Write>(
     print_audit(output, &answer)
 }
 
-// Audits a solution against an instance.
+// Audits a solution against an instance, and compares its cost with the best-known cost if there is one.
 fn listed_answer(
     alloc: Global,
     pair: &ListedPair<'_>,
@@ -178,7 +178,7 @@ fn compared_verdict(
     }
 }
 
-// Returns the line for a solution that breaks no rule, followed by how its cost compares.
+// Returns the line for a solution that passes, followed by the comparison of its cost with the best-known one.
 fn compared_line(alloc: Global, best: &BestKnown, cost: Cost) -> Result<AuditLine, OutOfMemory>
     ensures { IfOk result (λ line. line ≡ pass_text cost ++ comparison_text best.now cost) }
 {

@@ -1,4 +1,4 @@
-//! The audit of the two built-in texts.
+//! The audit of the built-in instance and solution.
 ghost use Rattle.std.specs.Prelude.{◌≡◌, ◌≤◌, IfOk};
 ghost use Rattle.plan_types.specs.declared.requests.Kind.TheVariants.{LiLim};
 ghost use Rattle.instance_read.specs.Formats.{format_of};
@@ -17,7 +17,7 @@ const EXAMPLE_INSTANCE: &str =
 /// The built-in solution, which passes.
 const EXAMPLE_SOLUTION: &str = "Route #1: 1 2\nCost 20\n";
 
-/// Prints the audit of the two built-in texts.
+/// Prints the audit of the built-in instance and solution.
 pub fn audit_example<W: Write>(alloc: Global, output: &mut W) -> io::Result<u8>
     ensures status { IfOk result (λ status. status ≤ 4) }
     ensures reported { IfOk result (PrintsAudit (format_of LiLim) example_instance example_solution

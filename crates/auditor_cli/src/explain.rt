@@ -32,8 +32,8 @@ pub struct Explanation {
     pub text: String,
 }
 
-/// Reads both files as `audit_files` does, and prints the answer of the audit, of the solution or only of its
-/// routes, with its explanation. The notes on ignored lines go to `errors`.
+/// Reads both files like `audit_files`, audits the solution or only its routes, and prints the answer with its
+/// explanation. Notes on ignored lines go to `errors`.
 pub fn explain_files<F: ReadFiles, W: Write, E: Write>(
     alloc: Global,
     paths: Paths,
@@ -58,7 +58,7 @@ pub fn explain_files<F: ReadFiles, W: Write, E: Write>(
     }
 }
 
-// Prints the explained audit of both texts, and the notes on ignored lines on `errors`.
+// Prints the answer for both texts with its explanation, and the notes on ignored lines on `errors`.
 fn print_both<W: Write, E: Write>(
     alloc: Global,
     paths: Paths<'_>,
@@ -87,7 +87,7 @@ fn print_both<W: Write, E: Write>(
     Ok(status)
 }
 
-// Prints the explained audit of both texts.
+// Prints the answer for both texts with its explanation.
 fn print_texts_explained<W: Write>(
     alloc: Global,
     format: Format,
@@ -164,7 +164,7 @@ fn explanation_of(
     Ok(Explanation { answer, text })
 }
 
-// Returns the explanation of the answer for two texts.
+// Returns the explanation of the answer for the examined texts.
 fn rests_on(
     alloc: Global,
     format: Format,
@@ -187,7 +187,7 @@ fn rests_on(
     }
 }
 
-// Returns the explanation for a solution that is refused, and the distance of its routes.
+// Returns the explanation for a solution that is refused, and the distance of its routes if they can be parsed.
 fn rests_on_fault(
     alloc: Global,
     format: Format,
@@ -204,7 +204,8 @@ fn rests_on_fault(
     Ok(text)
 }
 
-// Returns the line with the distance of the solution's routes, if they can be parsed.
+// Returns the line with the distance of the solution's routes, whatever its cost line is. Returns an empty text
+// if the routes can't be parsed or the distance is not known.
 fn routes_distance(
     alloc: Global,
     format: Format,
@@ -219,7 +220,7 @@ fn routes_distance(
     distance_of_routes(alloc, &routes)
 }
 
-// Returns the line with the distance of these routes, if they could be parsed.
+// Returns the line with the distance of these routes, or an empty text if they could not be parsed.
 fn distance_of_routes(alloc: Global, routes: &Examination) -> Result<String, OutOfMemory>
     requires { HasVerdictForSomeCost routes.now }
     ensures { IfOk result (λ text. string_bytes text ≡ distance_of_routes routes.now) }

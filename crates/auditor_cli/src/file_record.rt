@@ -32,6 +32,7 @@ impl Model for FileRecord {
 }
 
 impl FileRecord {
+    /// Makes a record without files.
     pub(crate) fn new() -> FileRecord
         ensures { result ≡ [] }
     {
@@ -40,6 +41,7 @@ impl FileRecord {
         }
     }
 
+    /// Adds a file with the bytes read or written, or with the error.
     pub(crate) fn note(&mut self, path: &[u8], outcome: Outcome, text: &[u8])
         ensures { self.new ≡ (path.now, given outcome text.now) ∷ self.old }
     {

@@ -1,4 +1,4 @@
-//! The files on a command line: those that are read, and those that are made.
+//! Readers and makers of the files that a command line names.
 ghost use Rattle.std.specs.Prelude.{◌≡◌, List, [], ◌∷◌, IfOk, MatchResult};
 ghost use Rattle.std.specs.Io.{StopsAt};
 ghost use Rattle.std.specs.IoError.{error_kind};
@@ -7,16 +7,16 @@ ghost use Rattle.auditor_cli.specs.Reads.{FileRead, FileWrite};
 use crate::file_record::{FileRecord, Outcome};
 use std::fs::{File, OpenOptions};
 use std::io::{BufRead, BufReader, ErrorKind, Write};
-use std::path::Path;
 use std::rt::Files;
 use std::{fs, io};
+use system_calls::{SystemCallLog, sync_folder_of};
 
-/// A reader of files by path, each completely or line by line. It records what it reads, with the results.
+/// A reader of files by path, each completely or line by line. It records each read with its result.
 pub trait ReadFiles {
     /// A file that is read line by line.
     type OpenFile: Drop;
 
-    /// The files read so far, newest first.
+    /// The reads so far with their results, newest first.
     ghost reads: { Self → List FileRead };
 
     /// Reads the whole file.
@@ -25,14 +25,14 @@ pub trait ReadFiles {
             (λ text. reads self.new ≡ (path.now, Ok text.items) ∷ reads self.old)
             (λ error. reads self.new ≡ (path.now, Err (error_kind error)) ∷ reads self.old) };
 
-    /// Opens a file for reading line by line. Reads nothing from it.
+    /// Opens a file for reading line by line. Reads nothing from it. An error is recorded like that of a read.
     fn open(&mut self, path: &str) -> io::Result<Self::OpenFile>
         ensures { MatchResult result
             (λ _. reads self.new ≡ reads self.old)
             (λ error. reads self.new ≡ (path.now, Err (error_kind error)) ∷ reads self.old) };
 
-    /// Reads the next line of a file that was opened from this path, with its line feed. Returns the rest of
-    /// the file if no line feed is left, and nothing at its end.
+    /// Reads the next line of a file that was opened from this path, with its line feed. Returns the rest of the
+    /// file if it has no line feed, and no bytes at the end of the file.
     fn read_line(&mut self, path: &str, opened: &mut Self::OpenFile) -> io::Result<Vec<u8>>
         ensures noted { MatchResult result
             (λ line. reads self.new ≡ (path.now, Ok line.items) ∷ reads self.old)
@@ -60,7 +60,7 @@ pub trait WriteFiles {
             (λ error. writes self.new ≡ (path.now, Err (error_kind error)) ∷ writes self.old) };
 }
 
-// The files of the system, and the results of those that were requested.
+// The system's files, and the record of those that were read or made.
 #[derive(Drop)]
 struct Host<'a, R> {
     rt: &'a R,
@@ -86,8 +86,8 @@ impl<'a, R> Host<'a, R> {
 }
 
 impl<'a, R: Eprint> Host<'a, R> {
-    // Records a file that can't be read or made, and prints the reason, unless it is that a new file already
-    // exists. Returns the error.
+    // Records a file that can't be read or made, and returns the error. Prints the system's error on standard
+    // error, except if a new file already exists.
     fn fail(&mut self, path: &str, error: io::Error) -> io::Error
         ensures noted { self.new.noted ≡ (path.now, Err (error_kind error)) ∷ self.old.noted }
         ensures same { result ≡ error }
@@ -202,7 +202,7 @@ impl<'a, R: Files<File = File> + Eprint> WriteFiles for HostNewFiles<'a, R> {
     }
 }
 
-// Checks that a new file can be made at the path: makes one and removes it. So a folder that refuses it is
+// Checks that a new file can be made at the path: makes one and removes it. So a folder that can't be written is
 // reported before a long search.
 fn check_new_file<R: Files<File = File>>(rt: &R, path: &str) -> io::Result<()> {
     open_new(rt, path)?;
@@ -221,7 +221,7 @@ fn open_new<R: Files<File = File>>(rt: &R, path: &str) -> io::Result<File> {
 fn write_new_file<R: Files<File = File>>(rt: &R, path: &str, text: &[u8]) -> io::Result<()> {
     let mut file = open_new(rt, path)?;
     let written = match write_whole(&mut file, text) {
-        Ok(()) => sync_folder(rt, path),
+        Ok(()) => sync_folder_of(rt, path, &mut SystemCallLog::new()),
         failed => failed,
     };
     if written.is_err() {
@@ -233,16 +233,4 @@ fn write_new_file<R: Files<File = File>>(rt: &R, path: &str, text: &[u8]) -> io:
 fn write_whole(file: &mut File, text: &[u8]) -> io::Result<()> {
     file.write_all(text)?;
     file.sync_all()
-}
-
-// Syncs the folder of the file, so that the file's name is on the disk. Some file systems can't sync a folder.
-fn sync_folder<R: Files<File = File>>(rt: &R, path: &str) -> io::Result<()> {
-    let folder = match Path::new(path).parent() {
-        Some(folder) if !folder.as_str().is_empty() => folder.as_str(),
-        _ => ".",
-    };
-    match File::open(rt, folder)?.sync_all() {
-        Err(error) if error.kind() == ErrorKind::InvalidInput => Ok(()),
-        synced => synced,
-    }
 }

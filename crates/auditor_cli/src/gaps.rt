@@ -6,7 +6,7 @@ ghost use Rattle.auditor_cli.specs.Gaps.{gap_text, hundredths, is_rounded_to, pe
 use plan_types::OutOfMemory;
 use std::alloc::Global;
 
-/// A published distance may be rounded to a multiple of one of these, in units of the instance.
+/// Powers of ten to which a published distance may be rounded, in the instance's unit of distance.
 static PLACES: [u64; 9] = [
     10,
     100,
@@ -19,7 +19,8 @@ static PLACES: [u64; 9] = [
     1_000_000_000,
 ];
 
-/// Returns ` gap ` and by how much a distance is longer than the best-known one, in percent.
+/// Returns ` gap ` and the percentage by which a distance is longer than the best-known one, with two decimals.
+/// The percentage is negative if the distance is shorter.
 pub(crate) fn gap_text(alloc: Global, distance: u64, best: u64) -> Result<String, OutOfMemory>
     requires { best ≢ 0 }
     ensures { IfOk result (λ text. string_bytes text ≡ gap_text distance best) }
@@ -32,7 +33,7 @@ pub(crate) fn gap_text(alloc: Global, distance: u64, best: u64) -> Result<String
     }
 }
 
-// Returns the gap of a distance that is shorter by this difference.
+// Returns the text for a distance that is shorter than the best-known one by this difference.
 fn shorter_text(alloc: Global, difference: u64, best: u64) -> Result<String, OutOfMemory>
     requires { best ≢ 0 }
     ensures { IfOk result (λ text. string_bytes text ≡ shorter_text difference best) }
@@ -90,7 +91,8 @@ fn places_text(alloc: Global, hundredths: u128) -> Result<String, OutOfMemory>
     format!(in alloc; ".{tenths}{last}")
 }
 
-/// Returns ` vehicles ` and how many more vehicles a plan uses than the best-known one, with the sign.
+/// Returns ` vehicles ` and the difference between the vehicles of a plan and those of the best-known cost, with
+/// its sign.
 pub(crate) fn vehicles_text(alloc: Global, vehicles: u64, best: u64) -> Result<String, OutOfMemory>
     ensures { IfOk result (λ text. string_bytes text ≡ vehicles_text vehicles best) }
 {

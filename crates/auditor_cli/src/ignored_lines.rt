@@ -1,5 +1,5 @@
-//! Notes on ignored lines: those after the cost line of a solution, and a limit of an instance that is not
-//! checked.
+//! Notes on ignored lines: the lines after the cost line of a solution, and a limit of an instance that no rule
+//! checks.
 ghost use Rattle.std.specs.Prelude.{◌++◌, OnOk, Some};
 ghost use Rattle.std.specs.Io.KnownBytes.{Appends};
 ghost use Rattle.auditor_cli.specs.IgnoredLines.{ignored_line_note, ignored_limit_note, listed_note_by, listed_note, place_text};
@@ -10,8 +10,8 @@ use plan_explain::{ignored_limit_line, line_after_cost};
 use std::io;
 use std::io::Write;
 
-/// Prints the number of the first line after the cost line that is not blank, if there is one. Parsing ends at
-/// the cost line. `path` is the solution's file.
+/// Prints a note with the number of the first line after the cost line that is not blank, if there is one.
+/// Parsing ends at the cost line. `path` is the solution's file.
 pub fn print_ignored_line<E: Write>(path: &str, solution: &[u8], errors: &mut E) -> io::Result<()>
     ensures { OnOk result (Appends (E.contents errors.old) (E.contents errors.new)
         (ignored_line_note path.now solution.now)) }
@@ -27,8 +27,8 @@ pub fn print_ignored_line<E: Write>(path: &str, solution: &[u8], errors: &mut E)
     }
 }
 
-/// Prints the number of the first line of the instance that names a limit which is not checked, if there is one.
-/// `path` is the instance's file.
+/// Prints a note with the number of the instance's first line that sets a limit which no rule checks, if there
+/// is one. `path` is the instance's file.
 pub fn print_ignored_limit<E: Write>(
     format: Format,
     path: &str,
@@ -64,14 +64,15 @@ pub(crate) fn print_ignored<E: Write>(
     print_ignored_limit(paths.format, paths.instance, instance, errors)
 }
 
-/// A line of a list, given by the path of the list and the number of the line, from 1.
+/// A line of a list: the path of the list and the number of the line, from 1.
 #[derive(Clone, Copy)]
 pub(crate) struct ListLine<'a> {
     pub list: &'a str,
     pub number: u64,
 }
 
-/// Prints the note on a solution that a line of a list names.
+/// Prints the note of `print_ignored_line` for a solution that a line of a list names, after the position of
+/// that line.
 pub(crate) fn print_listed_ignored_line<E: Write>(
     line: ListLine<'_>,
     path: &str,

@@ -7,18 +7,18 @@
 //!
 //! Source: this project's own; status 64 is `EX_USAGE` of BSD's `sysexits.h`.
 //!
-//! Each subcommand is one function that is generic over the writers and over what reads files (`audit_files`,
-//! `audit_list`, `explain_files`). Both files are read completely before either is parsed. A list is read line
-//! by line, and each line is answered before the next one is read.
+//! Each subcommand is one function that is generic over the output streams and the reader of files
+//! (`audit_files`, `audit_list`, `explain_files`). Both files are read completely before either is parsed. A
+//! list is read line by line, and each line is answered before the next one is read.
 //!
 //! Modules, in reading order:
 //! - `status`: the exit statuses
 //! - `answer`: the lines that answer an audit
 //! - `routes_alone`: the routes of a solution, without its cost
-//! - `audit`, `example`: the audit of two texts, and of the two built-in ones
+//! - `audit`, `example`: the audit of an instance and a solution in memory, and of the built-in ones
 //! - `partial`: plans that leave requests out, for subcommands that show a plan
 //! - `messages`, `usage`: the lines for files that can't be read or made, and for help and usage errors
-//! - `file_record`, `files`: what reads and makes files, and the record of these files
+//! - `file_record`, `files`: the record of the files that were read or made, and what reads and makes them
 //! - `ignored_lines`: notes on ignored lines of a solution and an instance
 //! - `columns`, `bad_lines`: columns separated by tabs, and the reason why a line of a list is bad
 //! - `best_known`, `gaps`: best-known costs, and how a plan's cost compares with one
@@ -26,13 +26,16 @@
 //! - `explain`: the subcommand `explain`
 //! - `program`: `audit_args`
 //!
-//! Proved for `audit_in_format`, `audit_text` and `audit_routes_text`: the answer is that of the first fault, or
-//! that of the verdict on the problem and the solution that the two texts spell. The status is 0 exactly if the
-//! solution is sound, serves every request, uses no more vehicles than there are, and, except for
-//! `audit_routes_text`, prints its true distance (`SaysSound`, `SaysRoutesSound`). Proved for `audit_args`, if no
-//! argument except `-` begins with a hyphen (`EndsWith`): which files are read, in which order, and the status;
-//! and what is printed, unless the output fails. No contract covers what the system's files contain: `HostFiles`
-//! and `HostNewFiles` record each file with the result of reading or writing it.
+//! Proved for `audit_in_format`, `audit_text` and `audit_routes_text`: if a text has a fault, the answer is that
+//! of the first one. Otherwise it is that of the verdict on the problem and the solution that the texts spell.
+//! The status is 0 exactly if the solution is sound, serves every request, uses no more vehicles than there are,
+//! and prints its true distance (`SaysSound`). For `audit_routes_text`, the distance is not checked
+//! (`SaysRoutesSound`).
+//!
+//! Proved for `audit_args`, if no argument except `-` begins with a hyphen (`EndsWith`): which files are read,
+//! in which order, and the status; and what is printed, unless the output fails. No contract covers what the
+//! system's files contain: `HostFiles` and `HostNewFiles` record each file with the result of reading or writing
+//! it.
 #![tactic(auto)]
 
 mod answer;

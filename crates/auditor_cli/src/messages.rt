@@ -18,7 +18,7 @@ pub fn write_line<W: Write>(output: &mut W, line: &[u8]) -> io::Result<()>
     output.write_all(b"\n")
 }
 
-/// Returns the status of a printed answer, or `FILE` if it could not be written.
+/// Returns the status of a printed answer, or `FILE` if the answer could not be printed.
 pub fn status_of(reported: io::Result<u8>) -> u8
     ensures { MatchResult reported (λ status. result ≡ status) (λ _. result ≡ 3) }
 {
@@ -61,7 +61,7 @@ fn already_exists(kind: ErrorKind) -> bool
     matches!(kind, ErrorKind::AlreadyExists)
 }
 
-// Prints that something can't be done with a file, or `out of memory`.
+// Prints `cannot VERB PATH`, or `out of memory` if that is the error.
 fn print_failure<W: Write>(
     output: &mut W,
     verb: &str,
@@ -79,14 +79,14 @@ fn print_failure<W: Write>(
     Ok(FILE)
 }
 
-// Returns whether the error is an allocation failure.
+// Returns whether the error is that an allocation failed.
 fn is_out_of_memory(kind: ErrorKind) -> bool
     ensures { result ≡ is_out_of_memory kind }
 {
     matches!(kind, ErrorKind::OutOfMemory)
 }
 
-/// Prints the answer of an audit.
+/// Prints the answer of an audit, or `out of memory`.
 pub fn print_audit<W: Write>(
     output: &mut W,
     answer: &Result<AuditAnswer, OutOfMemory>,

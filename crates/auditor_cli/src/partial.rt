@@ -13,25 +13,27 @@ use route_sched::{plan_cost, used_count};
 use sol_text::{SolFault, SolFaultKind, Solution};
 use std::alloc::Global;
 
-/// A plan that breaks no rule and leaves requests out, never only one stop of a pair.
+/// A plan that keeps rules 1 to 8, uses no more vehicles than there are, and leaves requests out. A pair is
+/// planned or left out as a whole.
 #[derive(Debug, Drop)]
 pub struct PartialPlan {
     pub problem: Problem,
     pub plan: Plan,
-    /// The cost; its first number is the number of requests left out.
+    /// The cost. `unplanned` is at least 1.
     pub cost: Cost,
 }
 
-/// Two texts that were examined; the second one may be a partial plan.
+/// The result of examining an instance and a solution, if the solution may be a partial plan.
 #[derive(Debug, Drop)]
 pub enum PlanExamination {
-    /// The texts were examined as for an audit.
+    /// The result of `examine`.
     Whole(Examination),
-    /// The route lines have no cost line and form a partial plan.
+    /// The solution has no cost line, and its routes form a partial plan.
     Partial(PartialPlan),
 }
 
-/// Examines both texts as `examine` does. But if a solution only lacks its cost line, it may be a partial plan.
+/// Examines both texts like `examine`, but accepts a partial plan if the solution has no cost line and no other
+/// fault.
 pub fn examine_plan(
     alloc: Global,
     format: Format,
@@ -48,7 +50,8 @@ pub fn examine_plan(
     }
 }
 
-// Examines two texts whose solution has this fault: it may be a partial plan.
+// Examines two texts whose solution is refused with this fault. The solution may be a partial plan only if the
+// fault is its missing cost line.
 fn partial_or_refused(
     alloc: Global,
     format: Format,
@@ -69,7 +72,7 @@ fn partial_or_refused(
     }
 }
 
-// Returns the partial plan that the routes form, if they form one.
+// Returns the partial plan that the routes form, or `None` if they form none.
 fn partial_of(alloc: Global, routes: Examination) -> Result<Option<PartialPlan>, OutOfMemory>
     ensures { IfOk result (λ found. MatchOption found (IsNotPartial routes) (IsPartialOf routes)) }
 {
@@ -102,7 +105,7 @@ fn partial_plan(
     }
 }
 
-// Returns the cost of the plan, if it is a partial one.
+// Returns the cost of the plan, or `None` if it is not a partial plan.
 fn partial_cost(alloc: Global, problem: &Problem, plan: &Plan) -> Result<Option<Cost>, OutOfMemory>
     ensures { IfOk result (λ found. MatchOption found
         (IsPartialPlan problem.now plan.now.routes → ⊥)
@@ -121,8 +124,8 @@ fn partial_cost(alloc: Global, problem: &Problem, plan: &Plan) -> Result<Option<
     Ok(is_partial.then_some(cost))
 }
 
-// Returns whether none of the rules 1 to 8 is broken. These rules concern stops and returns. Rule 9 is not
-// considered: for a plan in a store it requires exactly one route per vehicle.
+// Returns whether none of the rules 1 to 8 is broken, which concern stops and returns. For a plan, rule 9
+// requires a route for each vehicle, so it would refuse a file that leaves out empty routes.
 fn keeps_stops(verdict: Verdict) -> bool
     ensures { result ≡ keeps_stops verdict }
 {
@@ -132,7 +135,7 @@ fn keeps_stops(verdict: Verdict) -> bool
     }
 }
 
-/// Returns the answer for a partial plan.
+/// Returns the answer for a partial plan with this cost. It has the status of a broken rule.
 pub fn partial_answer(alloc: Global, cost: Cost) -> Result<AuditAnswer, OutOfMemory>
     ensures { IfOk result (λ answer. answer ≡ partial_answer cost) }
 {

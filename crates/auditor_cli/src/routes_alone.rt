@@ -10,8 +10,9 @@ use sol_text::cost_word;
 use std::alloc::Global;
 use text_lines::Lines;
 
-/// Returns the text that is parsed if only the routes of a solution are audited: its lines before the first cost
-/// line, or all lines if there is none, and then a cost of 0. The cost line of the solution is not parsed.
+/// Returns the text that is parsed if only the routes of a solution are audited. It has the lines before the
+/// first cost line, or all lines if there is none, and then a cost of 0. The cost line of the solution is not
+/// parsed.
 pub(crate) fn routes_text(alloc: Global, solution: &[u8]) -> Result<Vec<u8>, OutOfMemory>
     ensures value { IfOk result (λ text. text.items ≡ routes_text solution.now) }
     ensures lines { IfOk result (λ text. HasLinesOf solution.now text.items) }
@@ -36,6 +37,8 @@ fn add_routes(text: &mut Vec<u8>, solution: &[u8]) -> Result<(), OutOfMemory>
     Ok(())
 }
 
+// Appends the line, a carriage return and a line feed. The reader strips only this carriage return, so a line
+// that ends with another one is read back unchanged.
 fn add_line(text: &mut Vec<u8>, line: &[u8]) -> Result<(), OutOfMemory>
     ensures { OnOk result (text.new.items ≡ text.old.items ++ ended_whole line.now) }
 {

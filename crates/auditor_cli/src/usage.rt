@@ -1,4 +1,4 @@
-//! The arguments of the command line, and the output for those that request help or have an error.
+//! The arguments of the command line, and the output if they request help or have an error.
 ghost use Rattle.std.specs.Prelude.{◌≡◌, ◌≢◌, ◌⊎◌, IfErr, IfOk};
 ghost use Rattle.clap.specs.Words.{kind_of};
 ghost use Rattle.command_line.specs.Invocations.{usage_status_of};
@@ -35,8 +35,8 @@ pub fn print_usage<W: Write, E: Write>(
     }
 }
 
-/// Returns the command line, which begins with the program's name. Fails with a status if memory ran out or an
-/// argument is not UTF-8.
+/// Returns the arguments, of which the first is the program's name. If memory runs out or an argument is not
+/// UTF-8, the error is the exit status.
 pub fn command_args<R: Env + Eprint + AllocGlobal>(rt: &R) -> Result<Vec<String>, u8>
     ensures { IfErr result (λ status. (status ≡ 4) ⊎ (status ≡ 64)) }
 {

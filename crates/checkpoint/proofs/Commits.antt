@@ -11,8 +11,8 @@ use Rattle.checkpoint.specs.Stores.{Stores, HasStored, snapshot_in, leading_numb
 use Rattle.checkpoint.specs.DurableWrites.{IsInSnapshot}
 use Rattle.checkpoint.specs.WrittenImages.{half_of, with_snapshot, with_both}
 use Rattle.checkpoint.proofs.Runs.{read_written}
-use Rattle.checkpoint.proofs.Carried.{parity, half_inside, carried}
-use Rattle.checkpoint.proofs.Advanced.{Below, stored_below, advanced}
+use Rattle.checkpoint.proofs.Preservation.{parity, half_inside, carried}
+use Rattle.checkpoint.proofs.HeaderWrites.{Below, stored_below, advanced}
 
 -- A write of the snapshot, as whole sectors, into the half for the next sequence.
 module _ (header : Header) (bytes : List ℕ) (sequence : ℕ) (next : header.sequence ≡ sequence + 1) (whole : length bytes % 512 ≡ 0) (fits : length bytes ≤ 512 * 4096) where
@@ -36,14 +36,14 @@ module _ (header : Header) (bytes : List ℕ) (sequence : ℕ) (next : header.se
   low i below = omega (arith, below)
 
   -- A mixture of the old image and this write has the old headers and records.
-  pub front_stays : (before image : List ℕ) → 512 * 8450 ≤ length before → Mixes before (written (half_of header) bytes before) image → (i : ℕ) → i < 258 → sector i image ≡ sector i before
-  front_stays before image room mix i below = mixes_outside (half_of header) (length bytes / 512) bytes before image sectors (inside before room) mix i (inl (low i below))
+  pub prefix_stays : (before image : List ℕ) → 512 * 8450 ≤ length before → Mixes before (written (half_of header) bytes before) image → (i : ℕ) → i < 258 → sector i image ≡ sector i before
+  prefix_stays before image room mix i below = mixes_outside (half_of header) (length bytes / 512) bytes before image sectors (inside before room) mix i (inl (low i below))
 
   pub stays : (before image : List ℕ) (state : List ℕ) (journal : List (List ℕ)) → Mixes before (written (half_of header) bytes before) image
       → Stores version_2 before sequence state journal → Stores version_2 image sequence state journal
   stays before image state journal mix stored =
       let room : 512 * 8450 ≤ length before = stored.header.valid.room in
-      carried version_2 before image mix.size sequence (front_stays before image room mix)
+      carried version_2 before image mix.size sequence (prefix_stays before image room mix)
       (λ j within. mixes_outside (half_of header) (length bytes / 512) bytes before image sectors (inside before room) mix (half_at version_2 sequence + j) (apart j within))
       state journal stored
 
@@ -54,7 +54,7 @@ module _ (header : Header) (bytes : List ℕ) (sequence : ℕ) (next : header.se
   pub below_stays : (before : List ℕ) → 512 * 8450 ≤ length before → Below version_2 sequence before → Below version_2 sequence (with_snapshot header bytes before)
   below_stays before room below =
       let mix = whole_mix before room in
-      let same = front_stays before (with_snapshot header bytes before) room mix in
+      let same = prefix_stays before (with_snapshot header bytes before) room mix in
       record {
         headers = λ other valid. below.headers other (record {
           room = omega (arith, valid.room, mix.size);

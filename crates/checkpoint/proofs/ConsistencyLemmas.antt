@@ -16,15 +16,15 @@ use Rattle.checkpoint.specs.Layouts.{version_2}
 use Rattle.checkpoint.specs.Stores.{IsValid, Stores, leading_number}
 use Rattle.checkpoint.specs.Integrity.{is_blank, IsRecordAt, IsConsistentUnder, IsHeaderLost, AreHeadersApart, HasDamagedRecord, AreRecordsMixed, AreWarnings, has_none}
 use Rattle.checkpoint.proofs.Runs.{sector_written, written_outside}
-use Rattle.checkpoint.proofs.Carried.{parity, same_valid}
-use Rattle.checkpoint.proofs.Heads.{same_sector}
-use Rattle.checkpoint.proofs.Cleared.{IsCleared, clears, length_cleared, size_is}
-use Rattle.checkpoint.proofs.Commits.{front_stays, whole_mix}
+use Rattle.checkpoint.proofs.Preservation.{parity, same_valid}
+use Rattle.checkpoint.proofs.HeaderLemmas.{same_sector}
+use Rattle.checkpoint.proofs.BlankPrefixes.{IsCleared, clears, length_cleared, size_is}
+use Rattle.checkpoint.proofs.Commits.{prefix_stays, whole_mix}
 use Rattle.checkpoint.proofs.Journals.{length-journal, record_begins}
 use Rattle.checkpoint.specs.Holds.{journal}
 use Rattle.checkpoint.specs.Laws.{ConsistentHasNoWarning, RecordsKeepConsistency, SnapshotsKeepConsistency, HeadersKeepConsistency, FormatsAreConsistent}
 use Rattle.checkpoint.specs.DurableWrites.{IsSaved, IsZeros}
-use Rattle.checkpoint.specs.WrittenImages.{cleared, first_header, front_size, with_both, with_snapshot}
+use Rattle.checkpoint.specs.WrittenImages.{with_zeros, first_header, prefix_size, with_both, with_snapshot}
 use Rattle.state_codec.specs.Bytes.{state_bytes}
 
 -- consistency depends only on the headers and the records
@@ -192,18 +192,18 @@ module _ (image : List ℕ) (header : Header) (agrees : IsConsistentUnder header
   not_mixed : AreRecordsMixed image → ⊥
   not_mixed found = omega (arith, found.newer, agrees.order found.index found.inside)
 
-  pub undoubted : (doubts : IntegrityWarnings) → AreWarnings image header doubts → has_none doubts ≡ true
-  undoubted doubts are = rw (
-    not_true doubts.header_lost (λ yes. not_lost (are.lost.0 yes)),
-    not_true doubts.headers_apart (λ yes. not_apart (are.apart.0 yes)),
-    not_true doubts.record_damaged (λ yes. not_damaged (are.damaged.0 yes)),
-    not_true doubts.records_mixed (λ yes. not_mixed (are.mixed.0 yes)),
+  pub without_warning : (warnings : IntegrityWarnings) → AreWarnings image header warnings → has_none warnings ≡ true
+  without_warning warnings are = rw (
+    not_true warnings.header_lost (λ yes. not_lost (are.lost.0 yes)),
+    not_true warnings.headers_apart (λ yes. not_apart (are.apart.0 yes)),
+    not_true warnings.record_damaged (λ yes. not_damaged (are.damaged.0 yes)),
+    not_true warnings.records_mixed (λ yes. not_mixed (are.mixed.0 yes)),
   ) refl
 
 -- ---- the laws
 
 pub agreeing : ConsistentHasNoWarning
-agreeing image header doubts agrees are = undoubted image header agrees doubts are
+agreeing image header warnings agrees are = without_warning image header agrees warnings are
 
 pub records_keep : RecordsKeepConsistency
 records_keep image state commands place command bytes held agrees recorded free one is =
@@ -215,13 +215,13 @@ records_keep image state commands place command bytes held agrees recorded free 
 
 pub snapshots_keep : SnapshotsKeepConsistency
 snapshots_keep image mixture state commands place header bytes held agrees next saved mix =
-    agrees_still place.sequence image mixture mix.size (front_stays header bytes place.sequence next saved.whole saved.fits image mixture held.stored.header.valid.room mix) agrees
+    agrees_still place.sequence image mixture mix.size (prefix_stays header bytes place.sequence next saved.whole saved.fits image mixture held.stored.header.valid.room mix) agrees
 
 pub headers_keep : HeadersKeepConsistency
 headers_keep image state commands place header bytes held agrees next saved =
     let room = held.stored.header.valid.room in
     let mix = whole_mix header bytes place.sequence next saved.whole saved.fits image room in
-    let same = front_stays header bytes place.sequence next saved.whole saved.fits image (with_snapshot header bytes image) room mix in
+    let same = prefix_stays header bytes place.sequence next saved.whole saved.fits image (with_snapshot header bytes image) room mix in
     let before : Header = record { sequence = place.sequence; length = length (state_bytes Two state) } in
     agrees_next (with_snapshot header bytes image) before header
     (same_valid version_2 image (with_snapshot header bytes image) mix.size before (same (place.sequence % 2) (omega arith)) held.stored.header.valid) next
@@ -231,7 +231,7 @@ blank_zeros : (n : ℕ) → is_blank (replicate n 0) ≡ true
 blank_zeros zero = refl
 blank_zeros (suc n) = blank_zeros n
 
--- an image with a first header and zeros elsewhere in the front is consistent
+-- an image with a first header and zeros elsewhere in the prefix is consistent
 module _ (image : List ℕ) (zeros : IsCleared image) (header : Header) (first : header.sequence ≡ 1) (room : 512 * 8450 ≤ length image) where
   left : (i : ℕ) → (i < header.sequence % 2) ⊎ (header.sequence % 2 + 1 ≤ i) → sector i (written (header.sequence % 2) (header_bytes 2 header) image) ≡ sector i image
   left i out = written_outside (header.sequence % 2) 1 (header_bytes 2 header) image refl (omega (arith, room)) i out
@@ -249,22 +249,22 @@ module _ (image : List ℕ) (zeros : IsCleared image) (header : Header) (first :
         omega (arith, one, two);
   }
 
-zeros_are : IsZeros 132096 (replicate front_size 0)
+zeros_are : IsZeros 132096 (replicate prefix_size 0)
 zeros_are = subst (λ (n : ℕ). IsZeros 132096 (replicate n 0)) size_is (record { are = refl; long = length-replicate {A = ℕ} 132096 0 })
 
 new_store : (base : List ℕ) → IsCleared base → 512 * 8450 ≤ length base → (long : ℕ) (bytes : List ℕ) → IsSaved long bytes → IsConsistentUnder 1 (with_both (first_header long) bytes base)
 new_store base zeros room long bytes saved =
     let header = first_header long in
     let mix = whole_mix header bytes 0 refl saved.whole saved.fits base room in
-    let same = front_stays header bytes 0 refl saved.whole saved.fits base (with_snapshot header bytes base) room mix in
+    let same = prefix_stays header bytes 0 refl saved.whole saved.fits base (with_snapshot header bytes base) room mix in
     let is_room : 512 * 8450 ≤ length (with_snapshot header bytes base) = subst (λ (n : ℕ). 512 * 8450 ≤ n) (sym mix.size) room in
     agrees_new (with_snapshot header bytes base) (record { zeros = λ i below. same i below ∙ zeros.zeros i below }) header refl is_room
 
-front_inside : (n : ℕ) → 512 * 8450 ≤ n → 512 * 258 ≤ n
-front_inside n room = omega (arith, room)
+prefix_inside : (n : ℕ) → 512 * 8450 ≤ n → 512 * 258 ≤ n
+prefix_inside n room = omega (arith, room)
 
 pub formats_agree : FormatsAreConsistent
 formats_agree image long bytes room saved =
-    let inside : 512 * 258 ≤ length image = front_inside (length image) room in
-    let size_stays = length_cleared 132096 (replicate front_size 0) image zeros_are refl inside in
-    new_store (cleared image) (clears 132096 (replicate front_size 0) image zeros_are refl inside) (subst (λ (n : ℕ). 512 * 8450 ≤ n) (sym size_stays) room) long bytes saved
+    let inside : 512 * 258 ≤ length image = prefix_inside (length image) room in
+    let size_stays = length_cleared 132096 (replicate prefix_size 0) image zeros_are refl inside in
+    new_store (with_zeros image) (clears 132096 (replicate prefix_size 0) image zeros_are refl inside) (subst (λ (n : ℕ). 512 * 8450 ≤ n) (sym size_stays) room) long bytes saved

@@ -5,10 +5,10 @@ use Rattle.sector_disk.specs.Image.{sector}
 use Rattle.checkpoint.specs.declared.headers.Header.{Header}
 use Rattle.checkpoint.specs.Layouts.{version_2}
 use Rattle.checkpoint.specs.Stores.{IsValid, leading_number}
-use Rattle.checkpoint.specs.Reads.{IsImageFront}
+use Rattle.checkpoint.specs.Reads.{IsImagePrefix}
 use Rattle.checkpoint.specs.Integrity.{is_blank, IsRecordAt, IsHeaderLost, AreHeadersApart, HasDamagedRecord, AreRecordsMixed}
-use Rattle.checkpoint.proofs.Carried.{parity}
-use Rattle.checkpoint.proofs.Heads.{in_front, same_sector}
+use Rattle.checkpoint.proofs.Preservation.{parity}
+use Rattle.checkpoint.proofs.HeaderLemmas.{sector_in_prefix, same_sector}
 
 not_yes : (b : Bool) → IsTrue (not b) → b ≡ false
 not_yes true h = sym h
@@ -82,12 +82,12 @@ module _ (image : List ℕ) (header : Header) where
           found.apart (ap (λ (n : ℕ). n + 1) is ∙ next)),
     )
 
--- the record sectors of a front are those of its image
-module _ (sectors : ℕ) (front image : List ℕ) (whole : IsImageFront sectors front image) where
-  same : (i : ℕ) → i < 258 → sector i front ≡ sector i image
-  same i below = in_front sectors front image whole i below
+-- the record sectors of a prefix are those of its image
+module _ (sectors : ℕ) (prefix image : List ℕ) (whole : IsImagePrefix sectors prefix image) where
+  same : (i : ℕ) → i < 258 → sector i prefix ≡ sector i image
+  same i below = sector_in_prefix sectors prefix image whole i below
 
-  pub damaged_there : (b : Bool) → IsTrue b ↔ HasDamagedRecord front → IsTrue b ↔ HasDamagedRecord image
+  pub damaged_there : (b : Bool) → IsTrue b ↔ HasDamagedRecord prefix → IsTrue b ↔ HasDamagedRecord image
   damaged_there b reported = (
     λ yes.
         let d = reported.0 yes in
@@ -98,7 +98,7 @@ module _ (sectors : ℕ) (front image : List ℕ) (whole : IsImageFront sectors 
         reported.1 (record { index = d.index; inside = d.inside; padded = ap is_blank e ∙ d.padded; other = λ r. d.other (subst (IsRecordAt d.index) e r) }),
   )
 
-  pub mixed_there : (b : Bool) → IsTrue b ↔ AreRecordsMixed front → IsTrue b ↔ AreRecordsMixed image
+  pub mixed_there : (b : Bool) → IsTrue b ↔ AreRecordsMixed prefix → IsTrue b ↔ AreRecordsMixed image
   mixed_there b reported = (
     λ yes.
         let m = reported.0 yes in

@@ -7,8 +7,8 @@ use Rattle.checkpoint.specs.Stores.{Stores, HasStored, IsUnformatted}
 use Rattle.checkpoint.specs.Moments.{IsInFormat}
 use Rattle.checkpoint.specs.DurableWrites.{IsInDurableWrite, IsInSnapshot}
 use Rattle.checkpoint.specs.WrittenImages.{first_header, half_of, with_both}
-use Rattle.checkpoint.proofs.Cleared.{IsCleared, cleared_unformatted, cleared_below}
-use Rattle.checkpoint.proofs.Commits.{front_stays, becomes}
+use Rattle.checkpoint.proofs.BlankPrefixes.{IsCleared, cleared_unformatted, cleared_below}
+use Rattle.checkpoint.proofs.Commits.{prefix_stays, becomes}
 
 abbrev pub IsMaking : List ℕ → ℕ → ℕ → ℕ → List ℕ → Type 0
 IsMaking bytes size = IsInFormat (IsUnformatted version_2) (HasStored 1 (take size bytes) [])
@@ -41,7 +41,7 @@ module _ (bytes : List ℕ) (size : ℕ) (zeros seen : List ℕ) (cleared : IsCl
         clean reached =
             let start : reached.0 ≡ written 0 zeros seen = only reached.0 reached.1 in
             let is_room : 512 * 8450 ≤ length reached.0 = subst (λ (b : List ℕ). 512 * 8450 ≤ length b) (sym start) room in
-            let same = front_stays (first_header size) bytes 0 refl whole fits reached.0 image is_room reached.2 in
+            let same = prefix_stays (first_header size) bytes 0 refl whole fits reached.0 image is_room reached.2 in
             cleared_unformatted version_2 image (record { zeros = λ i below. same i below ∙ (subst IsCleared (sym start) cleared).zeros i below })
 
         stored : image ≡ with_both (first_header size) bytes mid_seen → Stores version_2 image 1 (take size bytes) []

@@ -33,14 +33,14 @@ use Rattle.sector_disk.specs.ImageLaws.{sector_left, sector_drop, length-written
 use Rattle.checkpoint.specs.Stores.{record_sectors}
 
 -- a prefix of a prefix is a prefix of the list
-pub take_front : (n m : ℕ) (xs : List ℕ) → n ≤ m → m ≤ length xs → take n (take m xs) ≡ take n xs
-take_front n m xs h inside =
+pub take_of_take : (n m : ℕ) (xs : List ℕ) → n ≤ m → m ≤ length xs → take n (take m xs) ≡ take n xs
+take_of_take n m xs h inside =
     let room : n ≤ length (take m xs) = simp length-take (omega arith) in
     sym (take-append-le n (take m xs) (drop m xs) room) ∙ ap (take n) (take-append-drop m xs)
 
 -- each of the first k sectors of a list is the same in the prefix of k sectors
-pub sector_front : (k j : ℕ) (xs : List ℕ) → j < k → 512 * k ≤ length xs → sector j (take (512 * k) xs) ≡ sector j xs
-sector_front k j xs h inside =
+pub sector_of_take : (k j : ℕ) (xs : List ℕ) → j < k → 512 * k ≤ length xs → sector j (take (512 * k) xs) ≡ sector j xs
+sector_of_take k j xs h inside =
     let room : 512 * j + 512 ≤ length (take (512 * k) xs) = simp length-take (omega arith) in
     sym (sector_left j (take (512 * k) xs) (drop (512 * k) xs) room) ∙ ap (sector j) (take-append-drop (512 * k) xs)
 
@@ -53,15 +53,15 @@ same_run first k n a b inside size same fits =
     let long_a : length (take (512 * k) (drop (512 * first) a)) ≡ 512 * k = simp length-take (omega (arith, room_a)) in
     let long_b : length (take (512 * k) (drop (512 * first) b)) ≡ 512 * k = simp length-take (omega (arith, room_b)) in
     let one = same_sectors k (take (512 * k) (drop (512 * first) b)) (take (512 * k) (drop (512 * first) a)) long_b long_a
-    (λ j h. sector_front k j (drop (512 * first) b) h room_b ∙ sector_drop first j b ∙ same j h ∙ sym (sector_drop first j a) ∙ sym (sector_front k j (drop (512 * first) a) h room_a)) in
-    sym (take_front n (512 * k) (drop (512 * first) b) fits room_b) ∙ ap (take n) one ∙ take_front n (512 * k) (drop (512 * first) a) fits room_a
+    (λ j h. sector_of_take k j (drop (512 * first) b) h room_b ∙ sector_drop first j b ∙ same j h ∙ sym (sector_drop first j a) ∙ sym (sector_of_take k j (drop (512 * first) a) h room_a)) in
+    sym (take_of_take n (512 * k) (drop (512 * first) b) fits room_b) ∙ ap (take n) one ∙ take_of_take n (512 * k) (drop (512 * first) a) fits room_a
 
 -- reading a run that was just written returns its bytes
 pub read_written : (first n : ℕ) (bytes image : List ℕ) → 512 * first + length bytes ≤ length image → n ≤ length bytes → take n (drop (512 * first) (written first bytes image)) ≡ take n bytes
 read_written first n bytes image inside fits =
     let rest = drop (512 * first + length bytes) image in
-    let front : length (take (512 * first) image) ≡ 512 * first = simp length-take (omega arith) in
-    ap (take n) (ap (drop (512 * first)) (append_assoc (take (512 * first) image) bytes rest) ∙ drop_at (take (512 * first) image) (bytes ++ rest) (512 * first) front)
+    let prefix : length (take (512 * first) image) ≡ 512 * first = simp length-take (omega arith) in
+    ap (take n) (ap (drop (512 * first)) (append_assoc (take (512 * first) image) bytes rest) ∙ drop_at (take (512 * first) image) (bytes ++ rest) (512 * first) prefix)
     ∙ take-append-le n bytes rest fits
 
 -- a sector that was just written has the written bytes

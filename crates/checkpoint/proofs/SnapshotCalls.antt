@@ -9,7 +9,7 @@ use Rattle.checkpoint.specs.Headers.{header_bytes}
 use Rattle.checkpoint.specs.Layouts.{version_2}
 use Rattle.checkpoint.specs.DurableWrites.{IsInDurableWrite, IsInSnapshot}
 use Rattle.checkpoint.specs.WrittenImages.{half_of, with_snapshot, with_both}
-use Rattle.checkpoint.proofs.Carried.{half_inside}
+use Rattle.checkpoint.proofs.Preservation.{half_inside}
 
 module _ (header : Header) (bytes : List ℕ) (possible : List ℕ → Type 0) (seen : List ℕ) (calls half : ℕ) (head : List ℕ) (half_is : half ≡ half_of header)
     (head_is : head ≡ header_bytes 2 header) where

@@ -22,7 +22,7 @@ use Rattle.checkpoint.specs.Stores.{IsCurrentHeader, snapshot_in, record_sectors
 use Rattle.checkpoint.specs.Holds.{Holds, layout_of, journal}
 use Rattle.checkpoint.specs.Reads.{HasRecords, HasStrayFrom}
 use Rattle.checkpoint.specs.InvalidImages.{HasBadJournal, HasMismatchedJournal, IsRefusedFor, IsBroken, HoldsNothing}
-use Rattle.checkpoint.proofs.Loading.{record_there}
+use Rattle.checkpoint.proofs.LoadLemmas.{record_there}
 use Rattle.checkpoint.proofs.HeaderBytes.{small_half, read_of, read_back}
 use Rattle.checkpoint.proofs.Journals.{record_begins, length-journal}
 

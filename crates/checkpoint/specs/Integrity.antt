@@ -53,28 +53,28 @@ pub record AreRecordsMixed (image : List ℕ) : Type 0 where
   pub newer : leading_number (sector (2 + index) image) < leading_number (sector (3 + index) image)
 
 -- The integrity warnings of an image with this header.
-pub record AreWarnings (image : List ℕ) (header : Header) (doubts : IntegrityWarnings) : Type 0 where
-  pub lost : IsTrue doubts.header_lost ↔ IsHeaderLost image header
-  pub apart : IsTrue doubts.headers_apart ↔ AreHeadersApart image header
-  pub damaged : IsTrue doubts.record_damaged ↔ HasDamagedRecord image
-  pub mixed : IsTrue doubts.records_mixed ↔ AreRecordsMixed image
+pub record AreWarnings (image : List ℕ) (header : Header) (warnings : IntegrityWarnings) : Type 0 where
+  pub lost : IsTrue warnings.header_lost ↔ IsHeaderLost image header
+  pub apart : IsTrue warnings.headers_apart ↔ AreHeadersApart image header
+  pub damaged : IsTrue warnings.record_damaged ↔ HasDamagedRecord image
+  pub mixed : IsTrue warnings.records_mixed ↔ AreRecordsMixed image
 
 -- The integrity warnings of an image with its current header.
-pub record AreWarningsOf (image : List ℕ) (doubts : IntegrityWarnings) : Type 0 where
+pub record AreWarningsOf (image : List ℕ) (warnings : IntegrityWarnings) : Type 0 where
   pub header : Header
   pub counts : IsCurrentHeader version_2 image header
-  pub are : AreWarnings image header doubts
+  pub are : AreWarnings image header warnings
 
 -- There is no warning.
 abbrev pub has_none : IntegrityWarnings → Bool
-has_none doubts = not (doubts.header_lost || doubts.headers_apart || doubts.record_damaged || doubts.records_mixed)
+has_none warnings = not (warnings.header_lost || warnings.headers_apart || warnings.record_damaged || warnings.records_mixed)
 
 -- The warning is one of these.
 abbrev pub has_warning : IntegrityWarnings → IntegrityWarning → Bool
-has_warning doubts HeaderLost = doubts.header_lost
-has_warning doubts HeadersApart = doubts.headers_apart
-has_warning doubts RecordDamaged = doubts.record_damaged
-has_warning doubts RecordsMixed = doubts.records_mixed
+has_warning warnings HeaderLost = warnings.header_lost
+has_warning warnings HeadersApart = warnings.headers_apart
+has_warning warnings RecordDamaged = warnings.record_damaged
+has_warning warnings RecordsMixed = warnings.records_mixed
 
 -- The image is consistent under this sequence. The other header has the sequence before this one, or this one
 -- is the first and the other header sector is blank. Each record sector is blank or a record at its place, and

@@ -8,7 +8,7 @@ use Rattle.checkpoint.specs.Reads.{HasRecords, IsClearFrom}
 
 -- the journal has these commands, no record sector after theirs begins with this sequence or a greater one, and
 -- the version allows the numbers of the stops that they add
-pub record HasJournal (version : Version) (front : List ℕ) (sequence : ℕ) (state : State) (commands : List Command) : Type 0 where
-  pub records : HasRecords version front sequence commands
-  pub clear : IsClearFrom (length commands) front sequence
+pub record HasJournal (version : Version) (prefix : List ℕ) (sequence : ℕ) (state : State) (commands : List Command) : Type 0 where
+  pub records : HasRecords version prefix sequence commands
+  pub clear : IsClearFrom (length commands) prefix sequence
   pub numbers : HaveValidNumbers version state commands

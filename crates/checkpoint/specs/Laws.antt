@@ -16,7 +16,7 @@ use Rattle.checkpoint.specs.Holds.{Holds, HoldsAt}
 use Rattle.checkpoint.specs.InvalidImages.{HoldsNothing}
 use Rattle.checkpoint.specs.Layouts.{journal_room, sectors_in, version_2}
 use Rattle.checkpoint.specs.DurableWrites.{IsSaved}
-use Rattle.checkpoint.specs.WrittenImages.{cleared, first_header, with_both, with_snapshot}
+use Rattle.checkpoint.specs.WrittenImages.{with_zeros, first_header, with_both, with_snapshot}
 
 -- law: an image holds at most one state, one list of commands and one place
 abbrev pub HoldAtMostOne : Type 0
@@ -39,7 +39,7 @@ HoldOrHaveAFault = (version : Version) (image : List ℕ) → All (λ b. b < 256
 
 -- law: an image that is consistent under the sequence of a header has no integrity warning
 abbrev pub ConsistentHasNoWarning : Type 0
-ConsistentHasNoWarning = (image : List ℕ) (header : Header) (doubts : IntegrityWarnings) → IsConsistentUnder header.sequence image → AreWarnings image header doubts → has_none doubts ≡ true
+ConsistentHasNoWarning = (image : List ℕ) (header : Header) (warnings : IntegrityWarnings) → IsConsistentUnder header.sequence image → AreWarnings image header warnings → has_none warnings ≡ true
 
 -- law: the write of a record by a commit keeps an image consistent
 abbrev pub RecordsKeepConsistency : Type 0
@@ -62,4 +62,4 @@ HeadersKeepConsistency = (image : List ℕ) (state : State) (commands : List Com
 
 -- law: a new store is consistent
 abbrev pub FormatsAreConsistent : Type 0
-FormatsAreConsistent = (image : List ℕ) (size : ℕ) (bytes : List ℕ) → 512 * sectors_in version_2 ≤ length image → IsSaved size bytes → IsConsistentUnder 1 (with_both (first_header size) bytes (cleared image))
+FormatsAreConsistent = (image : List ℕ) (size : ℕ) (bytes : List ℕ) → 512 * sectors_in version_2 ≤ length image → IsSaved size bytes → IsConsistentUnder 1 (with_both (first_header size) bytes (with_zeros image))

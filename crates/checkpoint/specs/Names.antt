@@ -1,7 +1,7 @@
 -- The names of faults and integrity warnings.
 use Rattle.std.specs.Prelude.{ℕ, List, codes}
 use Rattle.checkpoint.specs.declared.integrity.IntegrityWarning.{IntegrityWarning}
-use Rattle.checkpoint.specs.declared.integrity.IntegrityWarning.TheVariants as doubts
+use Rattle.checkpoint.specs.declared.integrity.IntegrityWarning.TheVariants as warnings
 use Rattle.checkpoint.specs.declared.faults.FormatFault.{FormatFault}
 use Rattle.checkpoint.specs.declared.faults.FormatFault.TheVariants as format
 use Rattle.checkpoint.specs.declared.faults.StoreFault.{StoreFault}
@@ -21,7 +21,7 @@ store_fault_name store.OutOfMemory = codes "OutOfMemory"
 store_fault_name store.DeviceFault = codes "DeviceFault"
 
 abbrev pub integrity_warning_name : IntegrityWarning → List ℕ
-integrity_warning_name doubts.HeaderLost = codes "HeaderLost"
-integrity_warning_name doubts.HeadersApart = codes "HeadersApart"
-integrity_warning_name doubts.RecordDamaged = codes "RecordDamaged"
-integrity_warning_name doubts.RecordsMixed = codes "RecordsMixed"
+integrity_warning_name warnings.HeaderLost = codes "HeaderLost"
+integrity_warning_name warnings.HeadersApart = codes "HeadersApart"
+integrity_warning_name warnings.RecordDamaged = codes "RecordDamaged"
+integrity_warning_name warnings.RecordsMixed = codes "RecordsMixed"

@@ -4,6 +4,7 @@ use Rattle.command_types.specs.Commands.{stops_added}
 use Rattle.command_types.specs.declared.states.State.{State}
 use Rattle.command_types.specs.declared.states.State.TheVariants.{Empty, Loaded}
 use Rattle.command_types.specs.declared.commands.Command.{Command}
+use Rattle.state_codec.specs.declared.version.TheConstants.{MAX_STOP_NUMBER_V1}
 use Rattle.state_codec.specs.declared.version.Version.{Version}
 use Rattle.state_codec.specs.declared.version.Version.TheVariants.{One, Two}
 
@@ -20,5 +21,5 @@ next_number_of (Loaded job) = job.problem.next_number
 -- Version 1 allows numbers up to 4,000 for the stops that these commands add to a state. For version 2 there is
 -- no condition, since a state itself limits the numbers.
 abbrev pub HaveValidNumbers : Version → State → List Command → Type 0
-HaveValidNumbers One state commands = next_number_of state + added_stops commands ≤ 4001
+HaveValidNumbers One state commands = next_number_of state + added_stops commands ≤ MAX_STOP_NUMBER_V1 + 1
 HaveValidNumbers Two state commands = Unit {0}

@@ -1,4 +1,4 @@
--- The effect of reading on a device, and the front of an image: its headers and records.
+-- The effect of reading on a device, and the prefix of an image: its headers and records.
 use Rattle.std.specs.Prelude.{◌≡◌, ◌≢◌, ℕ, ◌+◌, ◌*◌, ◌%◌, ◌<◌, ◌≤◌, List, Option, Some, None, length, take, All}
 use Rattle.sector_disk.specs.Image.{sector}
 use Rattle.sector_disk.specs.declared.sectors.Sectors as sectors
@@ -13,7 +13,7 @@ use Rattle.state_codec.specs.Limits.{IsRecorded}
 use Rattle.checkpoint.specs.declared.layouts.Layout.{Layout}
 use Rattle.checkpoint.specs.declared.headers.Header.{Header}
 use Rattle.checkpoint.specs.declared.places.Place.{Place}
-use Rattle.checkpoint.specs.Layouts.{journal_room, front_sectors, last_sequence, sectors_in}
+use Rattle.checkpoint.specs.Layouts.{journal_room, prefix_sectors, last_sequence, sectors_in}
 use Rattle.checkpoint.specs.Stores.{IsValid, IsCurrentHeader, snapshot_in, record_sectors, leading_number}
 use Rattle.checkpoint.specs.Holds.{layout_of, journal}
 
@@ -40,10 +40,10 @@ pub record IsWellFormedLoad (least sectors : ℕ) (state : State) (place : Place
   pub facts : IsState state
 
 -- The headers and the records of an image with `sectors` sectors.
-pub record IsImageFront (sectors : ℕ) (front image : List ℕ) : Type 0 where
+pub record IsImagePrefix (sectors : ℕ) (prefix image : List ℕ) : Type 0 where
   pub size : length image ≡ 512 * sectors
-  pub room : front_sectors ≤ sectors
-  pub is : take (512 * front_sectors) image ≡ front
+  pub room : prefix_sectors ≤ sectors
+  pub is : take (512 * prefix_sectors) image ≡ prefix
 
 -- The header's snapshot fits into a half, and the layout fits on a device with `sectors` sectors.
 pub record FitsLayout (layout : Layout) (sectors : ℕ) (header : Header) : Type 0 where
@@ -53,9 +53,9 @@ pub record FitsLayout (layout : Layout) (sectors : ℕ) (header : Header) : Type
   pub some : 1 ≤ header.length
   pub fits : header.length ≤ 512 * layout.half
 
--- The front of a device with `sectors` sectors, and a header that fits there.
-pub record IsFront (layout : Layout) (sectors : ℕ) (front : List ℕ) (header : Header) : Type 0 where
-  pub long : length front ≡ 512 * front_sectors
+-- The prefix of a device with `sectors` sectors, and a header that fits there.
+pub record IsPrefixAndHeader (layout : Layout) (sectors : ℕ) (prefix : List ℕ) (header : Header) : Type 0 where
+  pub long : length prefix ≡ 512 * prefix_sectors
   pub fits : FitsLayout layout sectors header
 
 -- A header that is allowed in this sector of a device with `sectors` sectors.
@@ -92,8 +92,8 @@ IsClearFrom used image sequence = (i : ℕ) → used ≤ i → i < journal_room 
 abbrev pub HasStrayFrom : ℕ → List ℕ → ℕ → Type 0
 HasStrayFrom used image sequence = (i : ℕ) × (used ≤ i) × (i < journal_room) × (sequence ≤ leading_number (sector (2 + i) image))
 
--- The parts of an image from which a store is read: the current header, the front and the snapshot's bytes.
-pub record HasParts (version : Version) (sectors : ℕ) (image : List ℕ) (header : Header) (front bytes : List ℕ) : Type 0 where
-  pub whole : IsImageFront sectors front image
+-- The parts of an image from which a store is read: the current header, the prefix and the snapshot's bytes.
+pub record HasParts (version : Version) (sectors : ℕ) (image : List ℕ) (header : Header) (prefix bytes : List ℕ) : Type 0 where
+  pub whole : IsImagePrefix sectors prefix image
   pub counts : IsCurrentHeader (layout_of version) image header
   pub snapshot : bytes ≡ snapshot_in (layout_of version) image header.sequence header.length

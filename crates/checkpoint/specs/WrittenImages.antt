@@ -8,7 +8,7 @@ use Rattle.state_codec.specs.Bytes.{state_bytes, record_bytes}
 use Rattle.state_codec.specs.declared.version.Version.TheVariants.{Two}
 use Rattle.checkpoint.specs.declared.headers.Header.{Header}
 use Rattle.checkpoint.specs.declared.places.Place.{Place}
-use Rattle.checkpoint.specs.Layouts.{version_2, front_sectors, half_at}
+use Rattle.checkpoint.specs.Layouts.{version_2, prefix_sectors, half_at}
 use Rattle.checkpoint.specs.Headers.{header_bytes}
 
 -- the first sector of the half for a header's snapshot
@@ -42,9 +42,9 @@ abbrev pub with_record : Place → Command → List ℕ → List ℕ
 with_record place command image = written (2 + place.used) (record_bytes Two place.sequence place.used command) image
 
 -- the number of bytes of the two headers and the 256 records
-unfoldable pub front_size : ℕ
-front_size = 512 * front_sectors
+unfoldable pub prefix_size : ℕ
+prefix_size = 512 * prefix_sectors
 
 -- zeros over the headers and the records
-abbrev pub cleared : List ℕ → List ℕ
-cleared image = written 0 (replicate front_size 0) image
+abbrev pub with_zeros : List ℕ → List ℕ
+with_zeros image = written 0 (replicate prefix_size 0) image

@@ -3,16 +3,14 @@ ghost use Rattle.std.specs.Prelude.{◌≡◌};
 
 use state_codec::CodecFault;
 use std::alloc::{AllocError, AllocFailed};
-use thiserror::Error;
 
 /// The reason why a device was not formatted.
-#[derive(Clone, Copy, Debug, PartialEq, Eq, Error)]
+#[derive(Clone, Copy, Debug, PartialEq, Eq)]
 pub enum FormatFault {
-    #[error("the device is too small")]
+    /// The device is too small.
     TooSmall,
-    #[error("the device failed")]
+    /// The device failed.
     DeviceFault,
-    #[error("out of memory")]
     OutOfMemory,
 }
 
@@ -43,22 +41,19 @@ impl From<AllocError> for FormatFault {
 }
 
 /// The reason why a store was not read or not changed.
-#[derive(Clone, Copy, Debug, PartialEq, Eq, Error)]
+#[derive(Clone, Copy, Debug, PartialEq, Eq)]
 pub enum StoreFault {
-    #[error("the device holds no store")]
+    /// The device holds no store.
     NotFormatted,
-    #[error("the store is of another version")]
+    /// The store has another version.
     BadVersion,
     /// The snapshot's bytes are not a state, or a record of the journal does not belong to the state. If memory
     /// runs out, the fault is `OutOfMemory` instead.
-    #[error("the store is broken: {0}")]
     Codec(CodecFault),
     /// The sequence is 2^60. Nothing was written.
-    #[error("the sequences are spent")]
     Spent,
-    #[error("out of memory")]
     OutOfMemory,
-    #[error("the device failed")]
+    /// The device failed.
     DeviceFault,
 }
 

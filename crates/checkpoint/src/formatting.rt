@@ -11,13 +11,13 @@ ghost use Rattle.checkpoint.specs.Formatting.{FormatsStore};
 ghost use Rattle.checkpoint.specs.Stores.{HasStored, IsUnformatted};
 ghost use Rattle.checkpoint.specs.Moments.{IsInFormat};
 ghost use Rattle.checkpoint.specs.DurableWrites.{IsSaved, IsSnapshotFor, IsZeros};
-ghost use Rattle.checkpoint.specs.WrittenImages.{cleared, first_header, with_both, with_state};
+ghost use Rattle.checkpoint.specs.WrittenImages.{with_zeros, first_header, with_both, with_state};
 
 use crate::durable_writes::{write_and_sync, write_snapshot};
 use crate::encoding::snapshot_of;
 use crate::faults::FormatFault;
 use crate::headers::Header;
-use crate::layouts::{FRONT_BYTES, SECTORS};
+use crate::layouts::{PREFIX_BYTES, SECTORS};
 use crate::places::Place;
 use crate::zeros::zeros;
 use command_types::State;
@@ -32,7 +32,7 @@ fn write_store<D: Sectors>(
     size: u64,
     bytes: &[u8],
 ) -> Result<(), DeviceFault>
-    requires zeros { IsZeros FRONT_BYTES zeros.now }
+    requires zeros { IsZeros PREFIX_BYTES zeros.now }
     requires snapshot { IsSnapshotFor (D.len device.old) (first_header size) bytes.now }
 
     ensures called { Calls D.Sectors (more result 6) (faults_after result) device.old device.new }
@@ -40,7 +40,7 @@ fn write_store<D: Sectors>(
         → During D.Sectors device.old device.new
         (IsInFormat (IsUnformatted version_2) (HasStored 1 (take size bytes.now) [])) }
     ensures durable { D.honest device.new
-        → OnOk result (Only (with_both (first_header size) bytes.now (cleared (D.seen device.old)))
+        → OnOk result (Only (with_both (first_header size) bytes.now (with_zeros (D.seen device.old)))
         (D.possible device.new)) }
 {
     write_and_sync(device, 0, zeros)?;
@@ -63,13 +63,13 @@ pub(crate) fn make_store<D: Sectors>(
 ) -> Result<Place, FormatFault>
     requires { IsSaved size bytes.now }
     ensures { FormatsStore D.Sectors (HasStored 1 (take size bytes.now) [])
-        (with_both (first_header size) bytes.now (cleared (D.seen device.old)))
+        (with_both (first_header size) bytes.now (with_zeros (D.seen device.old)))
         result device.old device.new }
 {
     if device.len() < SECTORS {
         return Err(FormatFault::TooSmall);
     }
-    let zeros = zeros(alloc, FRONT_BYTES)?;
+    let zeros = zeros(alloc, PREFIX_BYTES)?;
     match write_store(device, &zeros, size, bytes) {
         Ok(()) => Ok(Place {
             sequence: 1,
@@ -93,7 +93,7 @@ pub(crate) fn make_store<D: Sectors>(
 /// calls had finished, nothing is known about the content.
 pub fn format<D: Sectors>(alloc: Global, device: &mut D) -> Result<Place, FormatFault>
     ensures { FormatsStore D.Sectors (HoldsAt Empty [] first_place)
-        (with_state 1 Empty (cleared (D.seen device.old))) result device.old device.new }
+        (with_state 1 Empty (with_zeros (D.seen device.old))) result device.old device.new }
 {
     make_store(alloc, device, 1, &[0; SECTOR_SIZE])
 }
@@ -105,7 +105,7 @@ pub fn format_with<D: Sectors>(
     state: &State,
 ) -> Result<Place, FormatFault>
     ensures { FormatsStore D.Sectors (HoldsAt state.now [] first_place)
-        (with_state 1 state.now (cleared (D.seen device.old))) result device.old device.new }
+        (with_state 1 state.now (with_zeros (D.seen device.old))) result device.old device.new }
 {
     if device.len() < SECTORS {
         return Err(FormatFault::TooSmall);

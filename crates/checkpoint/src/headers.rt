@@ -1,7 +1,6 @@
 //! Encodes and decodes headers.
 ghost use Rattle.std.specs.Prelude.{◌≡◌, ℕ, ◌^◌, ◌<◌, ◌≤◌, length, IfSome, Some, None};
 ghost use Rattle.checkpoint.specs.Headers.{header_bytes};
-ghost use Rattle.checkpoint.specs.Stores.{leading_number};
 ghost use Rattle.checkpoint.specs.declared.headers.Header.{Header};
 
 use byteorder::{BigEndian, ByteOrder};
@@ -30,17 +29,6 @@ pub(crate) fn header_sector(version: u32, header: Header) -> [u8; SECTOR_SIZE]
     sector
 }
 
-/// Returns the big-endian number in the first eight bytes.
-pub(crate) fn leading_number(bytes: &[u8]) -> u64
-    requires { 8 ≤ length bytes.now }
-    ensures { result ≡ leading_number bytes.now }
-{
-    match bytes {
-        [a, b, c, d, e, f, g, h, ..] => u64::from_be_bytes([*a, *b, *c, *d, *e, *f, *g, *h]),
-        _ => 0,
-    }
-}
-
 /// Returns the header that a sector holds in a store of this version, if it holds one.
 pub(crate) fn header_in(version: u32, sector: &[u8]) -> Option<Header>
     requires { length sector.now ≡ 512 }
@@ -49,8 +37,8 @@ pub(crate) fn header_in(version: u32, sector: &[u8]) -> Option<Header>
         → sector.now ≡ header_bytes version header → result ≡ Some header }
 {
     let header = Header {
-        sequence: leading_number(&sector[12..]),
-        length: leading_number(&sector[20..]),
+        sequence: BigEndian::read_u64(&sector[12..]),
+        length: BigEndian::read_u64(&sector[20..]),
     };
     if sector == header_sector(version, header).as_slice() {
         Some(header)

@@ -6,17 +6,18 @@
 //! that is not current can't be checked: a crash may leave any part of a snapshot there.
 ghost use Rattle.std.specs.Prelude.{◌≡◌, ◌+◌, ◌*◌, ◌<◌, ◌↔◌, ℕ, List, length, IsTrue, IfSome, IfErr, IsErrOf, MatchResult};
 ghost use Rattle.checkpoint.specs.declared.headers.Header.{Header};
-ghost use Rattle.checkpoint.specs.Layouts.{version_2, front_sectors, min_sectors};
-ghost use Rattle.checkpoint.specs.Reads.{IsImageFront, FitsLayout, ReadsOnly};
+ghost use Rattle.checkpoint.specs.Layouts.{version_2, prefix_sectors, min_sectors};
+ghost use Rattle.checkpoint.specs.Reads.{IsImagePrefix, FitsLayout, ReadsOnly};
 ghost use Rattle.checkpoint.specs.InvalidImages.{HasNoHeader, IsHeaderOrReadFault, UnlessReadFailed};
 ghost use Rattle.checkpoint.specs.Refusals.{faults_after_reading};
 ghost use Rattle.checkpoint.specs.Integrity.{is_blank, IsRecordAt, HasDamagedRecord, AreRecordsMixed, IsOther, IsHeaderLost, AreHeadersApart, AreWarnings, AreWarningsOf};
 
 use crate::faults::StoreFault;
-use crate::fronts::{command_in, sector_at, valid_header};
-use crate::headers::{Header, leading_number};
+use crate::headers::Header;
 use crate::layouts::{MIN_SECTORS, RECORDS, VERSION_2};
-use crate::loads::read_front;
+use crate::loads::read_prefix;
+use crate::prefix::{command_in, sector_at, valid_header};
+use byteorder::{BigEndian, ByteOrder};
 use sector_disk::{SECTOR_SIZE, Sectors};
 use state_codec::version::Version;
 use std::alloc::Global;
@@ -63,10 +64,10 @@ impl IntegrityWarnings {
     ghost use Rattle.checkpoint.specs.Integrity.{has_warning, has_none};
 
     /// Returns whether the store has this warning.
-    pub fn has(&self, doubt: IntegrityWarning) -> bool
-        ensures { result ≡ has_warning self.now doubt }
+    pub fn has(&self, warning: IntegrityWarning) -> bool
+        ensures { result ≡ has_warning self.now warning }
     {
-        match doubt {
+        match warning {
             IntegrityWarning::HeaderLost => self.header_lost,
             IntegrityWarning::HeadersApart => self.headers_apart,
             IntegrityWarning::RecordDamaged => self.record_damaged,
@@ -93,16 +94,16 @@ fn is_blank(sector: &[u8; SECTOR_SIZE]) -> bool
 fn is_record(sector: &[u8; SECTOR_SIZE], index: u32) -> bool
     ensures { IsTrue result ↔ IsRecordAt index sector.now }
 {
-    command_in(Version::Two, sector, leading_number(sector), index).is_some()
+    command_in(Version::Two, sector, BigEndian::read_u64(sector), index).is_some()
 }
 
 // Returns whether some record sector is neither blank nor a record at its place.
-fn has_damaged_record(front: &[u8]) -> bool
-    requires { length front.now ≡ 512 * front_sectors }
-    ensures { IsTrue result ↔ HasDamagedRecord front.now }
+fn has_damaged_record(prefix: &[u8]) -> bool
+    requires { length prefix.now ≡ 512 * prefix_sectors }
+    ensures { IsTrue result ↔ HasDamagedRecord prefix.now }
 {
     for index in 0..RECORDS {
-        let sector = sector_at(front, 2 + index as usize);
+        let sector = sector_at(prefix, 2 + index as usize);
         if !is_blank(&sector) && !is_record(&sector, index) {
             return true;
         }
@@ -111,13 +112,13 @@ fn has_damaged_record(front: &[u8]) -> bool
 }
 
 // Returns whether some record sector has a greater sequence than the one before it.
-fn are_records_mixed(front: &[u8]) -> bool
-    requires { length front.now ≡ 512 * front_sectors }
-    ensures { IsTrue result ↔ AreRecordsMixed front.now }
+fn are_records_mixed(prefix: &[u8]) -> bool
+    requires { length prefix.now ≡ 512 * prefix_sectors }
+    ensures { IsTrue result ↔ AreRecordsMixed prefix.now }
 {
     for i in 0..RECORDS as usize - 1 {
-        let before = leading_number(&sector_at(front, 2 + i));
-        if before < leading_number(&sector_at(front, 3 + i)) {
+        let before = BigEndian::read_u64(&sector_at(prefix, 2 + i));
+        if before < BigEndian::read_u64(&sector_at(prefix, 3 + i)) {
             return true;
         }
     }
@@ -125,36 +126,36 @@ fn are_records_mixed(front: &[u8]) -> bool
 }
 
 // Returns the valid header in the other header sector, if there is one.
-fn other_header(sectors: u64, front: &[u8], header: Header) -> Option<Header>
-    requires { length front.now ≡ 512 * front_sectors }
+fn other_header(sectors: u64, prefix: &[u8], header: Header) -> Option<Header>
+    requires { length prefix.now ≡ 512 * prefix_sectors }
     ensures fits { IfSome result (FitsLayout version_2 sectors) }
-    ensures valid { (image : List ℕ) → IsImageFront sectors front.now image
+    ensures valid { (image : List ℕ) → IsImagePrefix sectors prefix.now image
         → IsOther image header result }
 {
     let index = 1 - (header.sequence % 2) as usize;
-    valid_header(VERSION_2, sectors, front, index)
+    valid_header(VERSION_2, sectors, prefix, index)
 }
 
 // Returns whether `header` is the only valid header, though the store is not new.
-fn is_header_lost(sectors: u64, front: &[u8], header: Header) -> bool
-    requires { length front.now ≡ 512 * front_sectors }
-    ensures { (image : List ℕ) → IsImageFront sectors front.now image
+fn is_header_lost(sectors: u64, prefix: &[u8], header: Header) -> bool
+    requires { length prefix.now ≡ 512 * prefix_sectors }
+    ensures { (image : List ℕ) → IsImagePrefix sectors prefix.now image
         → IsTrue result ↔ IsHeaderLost image header }
 {
-    match other_header(sectors, front, header) {
+    match other_header(sectors, prefix, header) {
         Some(_) => false,
-        None => header.sequence != 1 || !is_blank(&sector_at(front, 0)),
+        None => header.sequence != 1 || !is_blank(&sector_at(prefix, 0)),
     }
 }
 
 // Returns whether the other header sector has a valid header whose sequence is not one less than that of
 // `header`.
-fn are_headers_apart(sectors: u64, front: &[u8], header: Header) -> bool
-    requires { length front.now ≡ 512 * front_sectors }
-    ensures { (image : List ℕ) → IsImageFront sectors front.now image
+fn are_headers_apart(sectors: u64, prefix: &[u8], header: Header) -> bool
+    requires { length prefix.now ≡ 512 * prefix_sectors }
+    ensures { (image : List ℕ) → IsImagePrefix sectors prefix.now image
         → IsTrue result ↔ AreHeadersApart image header }
 {
-    match other_header(sectors, front, header) {
+    match other_header(sectors, prefix, header) {
         Some(other) => other.sequence + 1 != header.sequence,
         None => false,
     }
@@ -178,22 +179,22 @@ pub fn check_integrity<D: Sectors>(
     if sectors < MIN_SECTORS {
         return Err(StoreFault::NotFormatted);
     }
-    match read_front(alloc, device, VERSION_2) {
-        Ok(opened) => Ok(warnings_in(sectors, &opened.front, opened.header)),
+    match read_prefix(alloc, device, VERSION_2) {
+        Ok(opened) => Ok(warnings_in(sectors, &opened.prefix, opened.header)),
         Err(fault) => Err(fault),
     }
 }
 
 // Returns the integrity warnings for the headers and records that were read.
-fn warnings_in(sectors: u64, front: &[u8], header: Header) -> IntegrityWarnings
-    requires { length front.now ≡ 512 * front_sectors }
-    ensures { (image : List ℕ) → IsImageFront sectors front.now image
+fn warnings_in(sectors: u64, prefix: &[u8], header: Header) -> IntegrityWarnings
+    requires { length prefix.now ≡ 512 * prefix_sectors }
+    ensures { (image : List ℕ) → IsImagePrefix sectors prefix.now image
         → AreWarnings image header result }
 {
     IntegrityWarnings {
-        header_lost: is_header_lost(sectors, front, header),
-        headers_apart: are_headers_apart(sectors, front, header),
-        record_damaged: has_damaged_record(front),
-        records_mixed: are_records_mixed(front),
+        header_lost: is_header_lost(sectors, prefix, header),
+        headers_apart: are_headers_apart(sectors, prefix, header),
+        record_damaged: has_damaged_record(prefix),
+        records_mixed: are_records_mixed(prefix),
     }
 }

@@ -22,16 +22,16 @@ pub const RECORDS: u32 = 256;
 pub const LAST_SEQUENCE: u64 = 1 << 60;
 
 /// The number of sectors before the halves: two headers and the records.
-const FRONT_SECTORS: u64 = 2 + RECORDS as u64;
+const PREFIX_SECTORS: u64 = 2 + RECORDS as u64;
 
 /// The number of bytes before the halves.
-pub(crate) const FRONT_BYTES: usize = FRONT_SECTORS as usize * 512;
+pub(crate) const PREFIX_BYTES: usize = PREFIX_SECTORS as usize * 512;
 
 /// The number of sectors of a store of the current version.
-pub const SECTORS: u64 = FRONT_SECTORS + 2 * VERSION_2.half as u64;
+pub const SECTORS: u64 = PREFIX_SECTORS + 2 * VERSION_2.half as u64;
 
 /// The number of sectors of the smallest store of any version.
-pub const MIN_SECTORS: u64 = FRONT_SECTORS + 2 * VERSION_1.half as u64;
+pub const MIN_SECTORS: u64 = PREFIX_SECTORS + 2 * VERSION_1.half as u64;
 
 /// The layout of a store of version 1: 802 sectors. Such a store is only read.
 const VERSION_1: Layout = Layout {
@@ -59,12 +59,12 @@ pub(crate) fn layout_of(version: Version) -> Layout
 pub(crate) fn sectors_in(layout: Layout) -> u64
     ensures { result ≡ sectors_in layout }
 {
-    FRONT_SECTORS + 2 * u64::from(layout.half)
+    PREFIX_SECTORS + 2 * u64::from(layout.half)
 }
 
 /// Returns the first sector of the half that holds the snapshot of a sequence.
 pub(crate) fn half_start(layout: Layout, sequence: u64) -> u64
     ensures { result ≡ half_at layout sequence }
 {
-    FRONT_SECTORS + u64::from(layout.half) * (sequence % 2)
+    PREFIX_SECTORS + u64::from(layout.half) * (sequence % 2)
 }

@@ -18,7 +18,7 @@
 //!   snapshot
 //! - `durable_writes`: writes followed by a sync: a run of sectors, a snapshot with its header, a record
 //! - `formatting`: creates a store; `changes`: commits to it
-//! - `reads`, `fronts`, `numbers`, `loads`: read a store: its sectors, its headers and records, and its content
+//! - `reads`, `prefix`, `numbers`, `loads`: read a store: its sectors, its headers and records, and its content
 //! - `integrity`: finds signs of damage in a store that may still open
 //! - `laws`: laws about every image
 //!
@@ -38,7 +38,6 @@ mod durable_writes;
 mod encoding;
 mod faults;
 mod formatting;
-mod fronts;
 mod headers;
 mod integrity;
 mod laws;
@@ -46,6 +45,7 @@ mod layouts;
 mod loads;
 mod numbers;
 mod places;
+mod prefix;
 mod reads;
 mod zeros;
 
@@ -58,5 +58,5 @@ pub use laws::{
     images_hold_at_most_one_state,
 };
 pub use layouts::{LAST_SEQUENCE, MIN_SECTORS, RECORDS, SECTORS};
-pub use loads::{Loaded, load, load_latest, load_latest_v1};
+pub use loads::{StoreContent, load, load_latest, load_latest_v1};
 pub use places::Place;

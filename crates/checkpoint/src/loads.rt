@@ -5,9 +5,9 @@
 //! reported for a device that turns out to have no store.
 ghost use Rattle.std.specs.Prelude.{◌≡◌, ◌+◌, ◌*◌, ◌/◌, ◌%◌, ◌<◌, ◌≤◌, ℕ, List, length, take, drop, OnOk, IfOk, IfErr, IsErrOf, MatchResult};
 ghost use Rattle.command_types.specs.States.{IsState};
-ghost use Rattle.checkpoint.specs.Layouts.{version_1, version_2, front_sectors, min_sectors, sectors_in};
+ghost use Rattle.checkpoint.specs.Layouts.{version_1, version_2, prefix_sectors, min_sectors, sectors_in};
 ghost use Rattle.checkpoint.specs.Stores.{IsCurrentHeader, snapshot_in};
-ghost use Rattle.checkpoint.specs.Reads.{IsImageFront, IsFront, ReadsOnly, IsWellFormedLoad, FitsLayout, HasParts};
+ghost use Rattle.checkpoint.specs.Reads.{IsImagePrefix, IsPrefixAndHeader, ReadsOnly, IsWellFormedLoad, FitsLayout, HasParts};
 ghost use Rattle.state_codec.specs.Bytes.{state_bytes};
 ghost use Rattle.state_codec.specs.declared.version.Version.TheVariants.{One, Two};
 ghost use Rattle.state_codec.specs.Limits.{IsStateOf};
@@ -20,11 +20,11 @@ ghost use Rattle.checkpoint.specs.Refusals.{IsOfReading, faults_after_reading};
 
 use crate::encoding::keeps_invariants;
 use crate::faults::StoreFault;
-use crate::fronts::{current_header, first_stray_record, leading_commands};
 use crate::headers::Header;
-use crate::layouts::{FRONT_BYTES, Layout, MIN_SECTORS, half_start, layout_of};
+use crate::layouts::{Layout, MIN_SECTORS, PREFIX_BYTES, half_start, layout_of};
 use crate::numbers::have_valid_numbers;
 use crate::places::Place;
+use crate::prefix::{current_header, first_stray_record, leading_commands};
 use crate::reads::read_run;
 use command_types::{Command, State};
 use sector_disk::{SECTOR_SIZE, Sectors};
@@ -35,12 +35,12 @@ use std::alloc::Global;
 /// The headers and the records of a device, and the current header.
 #[derive(Drop)]
 pub(crate) struct HeaderAndJournal {
-    pub(crate) front: Vec<u8>,
+    pub(crate) prefix: Vec<u8>,
     pub(crate) header: Header,
 }
 
 /// Reads the headers and the records, with one device call.
-pub(crate) fn read_front<D: Sectors>(
+pub(crate) fn read_prefix<D: Sectors>(
     alloc: Global,
     device: &mut D,
     layout: Layout,
@@ -48,22 +48,22 @@ pub(crate) fn read_front<D: Sectors>(
     requires { min_sectors ≤ D.len device.old }
 
     ensures fails { IfErr result IsHeaderOrReadFault }
-    ensures front { IfOk result (λ opened.
-        IsFront layout (D.len device.old) opened.front.items opened.header) }
+    ensures prefix { IfOk result (λ opened.
+        IsPrefixAndHeader layout (D.len device.old) opened.prefix.items opened.header) }
     ensures found { D.honest device.new
         → MatchResult result (λ opened.
-        IsImageFront (D.len device.old) opened.front.items (D.seen device.old)
+        IsImagePrefix (D.len device.old) opened.prefix.items (D.seen device.old)
         × IsCurrentHeader layout (D.seen device.old) opened.header)
         (UnlessReadFailed (HasNoHeader layout (D.seen device.old))) }
     ensures reads { ReadsOnly D.Sectors (faults_after_reading result) device.old device.new }
 {
     let sectors = device.len();
-    let front = match read_run(alloc, device, 0, FRONT_BYTES) {
-        Ok(front) => front,
+    let prefix = match read_run(alloc, device, 0, PREFIX_BYTES) {
+        Ok(prefix) => prefix,
         Err(fault) => return Err(fault),
     };
-    match current_header(layout, sectors, &front) {
-        Ok(header) => Ok(HeaderAndJournal { front, header }),
+    match current_header(layout, sectors, &prefix) {
+        Ok(header) => Ok(HeaderAndJournal { prefix, header }),
         Err(fault) => Err(fault),
     }
 }
@@ -96,7 +96,7 @@ pub(crate) fn read_snapshot<D: Sectors>(
 
 /// The content of a store.
 #[derive(Debug, Drop)]
-pub struct Loaded {
+pub struct StoreContent {
     /// The state in the snapshot.
     pub state: State,
     /// The commands of the records after the snapshot, in order.
@@ -110,17 +110,17 @@ pub(crate) fn load_journal(
     alloc: Global,
     version: Version,
     header: Header,
-    front: &[u8],
+    prefix: &[u8],
     state: State,
-) -> Result<Loaded, StoreFault>
-    requires { length front.now ≡ 512 * front_sectors }
+) -> Result<StoreContent, StoreFault>
+    requires { length prefix.now ≡ 512 * prefix_sectors }
 
     ensures facts { IsState state }
     ensures fails { IfErr result IsJournalFault }
-    ensures standing { (sectors : ℕ) → FitsLayout (layout_of version) sectors header
+    ensures well_formed { (sectors : ℕ) → FitsLayout (layout_of version) sectors header
         → IfOk result (λ loaded. IsWellFormedLoad
         (sectors_in (layout_of version)) sectors loaded.state loaded.place) }
-    ensures found { (sectors : ℕ) (image : List ℕ) → IsImageFront sectors front.now image
+    ensures found { (sectors : ℕ) (image : List ℕ) → IsImagePrefix sectors prefix.now image
         → IsCurrentHeader (layout_of version) image header
         → snapshot_in (layout_of version) image header.sequence header.length
         ≡ state_bytes version state → IsStateOf version state
@@ -129,8 +129,8 @@ pub(crate) fn load_journal(
         (UnlessReadFailed (λ fault. HasBadJournal version image header.sequence state)) }
 {
     keeps_invariants(&state);
-    match journal(alloc, version, front, header.sequence, &state) {
-        Ok(commands) => Ok(Loaded {
+    match journal(alloc, version, prefix, header.sequence, &state) {
+        Ok(commands) => Ok(StoreContent {
             place: Place {
                 sequence: header.sequence,
                 used: commands.len() as u32,
@@ -146,21 +146,21 @@ pub(crate) fn load_journal(
 fn journal(
     alloc: Global,
     version: Version,
-    front: &[u8],
+    prefix: &[u8],
     sequence: u64,
     state: &State,
 ) -> Result<Vec<Command>, StoreFault>
-    requires { length front.now ≡ 512 * front_sectors }
+    requires { length prefix.now ≡ 512 * prefix_sectors }
     ensures fails { IfErr result IsJournalFault }
     ensures found { MatchResult result
-        (λ commands. HasJournal version front.now sequence state.now commands.items)
-        (UnlessReadFailed (λ fault. HasBadJournal version front.now sequence state.now)) }
+        (λ commands. HasJournal version prefix.now sequence state.now commands.items)
+        (UnlessReadFailed (λ fault. HasBadJournal version prefix.now sequence state.now)) }
 {
-    let commands = match leading_commands(alloc, version, front, sequence) {
+    let commands = match leading_commands(alloc, version, prefix, sequence) {
         Ok(commands) => commands,
         Err(_) => return Err(StoreFault::OutOfMemory),
     };
-    match first_stray_record(front, commands.len(), sequence) {
+    match first_stray_record(prefix, commands.len(), sequence) {
         Some(_) => Err(StoreFault::Codec(CodecFault::BadField)),
         None => {
             if have_valid_numbers(version, state, &commands) {
@@ -190,12 +190,12 @@ pub(crate) fn read_parts<D: Sectors>(
     ensures small { D.len device.old < min_sectors
         → (device.new ≡ device.old) × IsErrOf result StoreFault.NotFormatted }
     ensures fails { IfErr result IsHeaderOrReadFault }
-    ensures front { IfOk result (λ parts. IsFront (layout_of version) (D.len device.old)
-        parts.opened.front.items parts.opened.header) }
+    ensures prefix { IfOk result (λ parts. IsPrefixAndHeader (layout_of version) (D.len device.old)
+        parts.opened.prefix.items parts.opened.header) }
     ensures found { D.honest device.new
         → MatchResult result (λ parts.
         HasParts version (D.len device.old)
-        (D.seen device.old) parts.opened.header parts.opened.front.items parts.bytes.items)
+        (D.seen device.old) parts.opened.header parts.opened.prefix.items parts.bytes.items)
         (UnlessReadFailed (HasNoHeader (layout_of version) (D.seen device.old))) }
     ensures reads { ReadsOnly D.Sectors (faults_after_reading result) device.old device.new }
 {
@@ -203,7 +203,7 @@ pub(crate) fn read_parts<D: Sectors>(
         return Err(StoreFault::NotFormatted);
     }
     let layout = layout_of(version);
-    let opened = match read_front(alloc, device, layout) {
+    let opened = match read_prefix(alloc, device, layout) {
         Ok(opened) => opened,
         Err(fault) => return Err(fault),
     };
@@ -232,22 +232,22 @@ pub(crate) fn interpret(
     opened: &HeaderAndJournal,
     bytes: &[u8],
     decoded: Result<State, CodecFault>,
-) -> Result<Loaded, StoreFault>
-    requires long { length opened.now.front.items ≡ 512 * front_sectors }
+) -> Result<StoreContent, StoreFault>
+    requires long { length opened.now.prefix.items ≡ 512 * prefix_sectors }
     requires decodes { Decodes version bytes.now decoded }
 
     ensures fails { IfErr result IsContentFault }
-    ensures standing { (sectors : ℕ) → FitsLayout (layout_of version) sectors opened.now.header
+    ensures well_formed { (sectors : ℕ) → FitsLayout (layout_of version) sectors opened.now.header
         → IfOk result (λ loaded. IsWellFormedLoad
         (sectors_in (layout_of version)) sectors loaded.state loaded.place) }
     ensures found { (sectors : ℕ) (image : List ℕ)
-        → HasParts version sectors image opened.now.header opened.now.front.items bytes.now
+        → HasParts version sectors image opened.now.header opened.now.prefix.items bytes.now
         → MatchResult result (λ loaded.
         Holds version image loaded.state loaded.commands.items loaded.place)
         (UnlessReadFailed (HoldsNothing version image)) }
 {
     match decoded {
-        Ok(state) => load_journal(alloc, version, opened.header, &opened.front, state),
+        Ok(state) => load_journal(alloc, version, opened.header, &opened.prefix, state),
         Err(fault) => Err(store_fault_of(fault)),
     }
 }
@@ -268,7 +268,7 @@ pub fn load<D: Sectors>(
     alloc: Global,
     device: &mut D,
     version: Version,
-) -> Result<Loaded, StoreFault>
+) -> Result<StoreContent, StoreFault>
     ensures loaded { IsLoaded D.Sectors version result device.old device.new }
     ensures reads { ReadsOnly D.Sectors (faults_after_reading result) device.old device.new }
 {
@@ -281,7 +281,7 @@ pub fn load<D: Sectors>(
 }
 
 /// Reads a store of the current version with `load`.
-pub fn load_latest<D: Sectors>(alloc: Global, device: &mut D) -> Result<Loaded, StoreFault>
+pub fn load_latest<D: Sectors>(alloc: Global, device: &mut D) -> Result<StoreContent, StoreFault>
     ensures loaded { IsLoaded D.Sectors Two result device.old device.new }
     ensures reads { ReadsOnly D.Sectors (faults_after_reading result) device.old device.new }
 {
@@ -289,7 +289,7 @@ pub fn load_latest<D: Sectors>(alloc: Global, device: &mut D) -> Result<Loaded, 
 }
 
 /// Reads a store of version 1 with `load`.
-pub fn load_latest_v1<D: Sectors>(alloc: Global, device: &mut D) -> Result<Loaded, StoreFault>
+pub fn load_latest_v1<D: Sectors>(alloc: Global, device: &mut D) -> Result<StoreContent, StoreFault>
     ensures loaded { IsLoaded D.Sectors One result device.old device.new }
     ensures reads { ReadsOnly D.Sectors (faults_after_reading result) device.old device.new }
 {

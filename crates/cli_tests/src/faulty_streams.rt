@@ -5,7 +5,8 @@ use std::alloc::Global;
 use std::io;
 use std::io::{ErrorKind, Read, Write};
 
-/// The limits of a reader: how many bytes it returns per call at most, and after how many calls it fails.
+/// The limits of a reader: the greatest number of bytes that a call returns, and the number of calls before one
+/// fails.
 #[derive(Clone, Copy)]
 pub(crate) struct Chunks {
     most: usize,
@@ -29,7 +30,7 @@ impl Chunks {
     }
 }
 
-/// A reader that returns a text in pieces. Every third call is interrupted.
+/// A reader that returns a text in pieces. Every third call is interrupted; such calls do not count.
 #[derive(Drop)]
 pub(crate) struct ChunkReader<'a> {
     rest: &'a [u8],
@@ -66,7 +67,7 @@ impl Read for ChunkReader<'_> {
     }
 }
 
-/// A writer that takes at most this many bytes per call, and fails after this many calls.
+/// A writer that takes at most `most` bytes per call, and fails after `calls` calls.
 #[derive(Drop)]
 pub(crate) struct LimitedWriter {
     pub(crate) taken: Vec<u8>,

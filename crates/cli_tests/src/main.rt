@@ -1,12 +1,12 @@
-//! Runs the program once for each line of `words.txt` and prints each answer, followed by its status. A line has
-//! the arguments, separated by `|`. Standard input is read by the `run` subcommand, which one of the lines uses.
+//! Runs the program once for each line of `words.txt` and prints each answer, followed by its exit status. A line
+//! has the arguments, separated by `|`. One of the lines uses the `run` subcommand, which reads standard input.
 //! After that, serves one input over stores in memory, with readers, writers and devices that fail.
 //!
 //! The gate compares the output with `stdout`. `data` has copies of the repository's examples, since the gate
 //! refuses links; `tests/words.sh` compares them. Nothing is proved except that no step panics.
 //!
-//! Modules: `pieces` (an input in pieces), `faulty_streams` (readers and writers that fail), `stores` (sessions over
-//! stores in memory).
+//! Modules: `pieces` (an input in pieces), `faulty_streams` (readers and writers that fail), `stores` (sessions
+//! over stores in memory).
 #![tactic(auto)]
 
 mod faulty_streams;
@@ -39,7 +39,7 @@ fn print_answers(rt: &HostRuntime) -> io::Result<()> {
     Ok(())
 }
 
-// Returns the status with which the program ends.
+// Runs the program with these arguments and returns its exit status.
 fn status_of(rt: &HostRuntime, words: &[&str]) -> u8 {
     let mut disks = HostDeviceFiles::new(rt);
     let mut files = HostFiles::new(rt);

@@ -11,7 +11,7 @@ use std::io::Write;
 const LOAD: &str =
     "load vrp 0 173\nNAME : t3\nTYPE : CVRP\nDIMENSION : 4\nEDGE_WEIGHT_TYPE : EUC_2D\nCAPACITY : 10\nNODE_COORD_SECTION\n1 0 0\n2 3 4\n3 6 8\n4 0 5\nDEMAND_SECTION\n1 0\n2 6\n3 4\n4 5\nDEPOT_SECTION\n1\n-1\nEOF\n";
 
-/// The parts of the input, each one line with the bytes that follow it. The last one has no line feed.
+/// The parts of the input: each is a command with the bytes that it announces. The last one has no line feed.
 const PARTS: [&str; 9] = [
     "search 1\n",
     LOAD,
@@ -33,7 +33,7 @@ const REFUSED: &str = "show\nsearch 1\n";
 /// The answers to `LOAD`, `build`, the commands of `REFUSED` and `LOAD` again, if the device fails in `build`.
 const FAULT_IN_BUILD: &[u8] = b"ok\nfault device\nno Broken\nno Broken\nno Broken\n";
 
-/// Prints the answers, and how many of the failing runs end in a way that they should not.
+/// Prints the answers, and how many of the failing runs end in a wrong way.
 pub(crate) fn print_pieces(rt: &HostRuntime) -> io::Result<()> {
     let whole = text_of(rt.alloc(), &PARTS)?;
     print_input(rt.alloc(), &whole, &mut io::writer(rt))
@@ -47,7 +47,7 @@ fn print_input<W: Write>(alloc: Global, whole: &[u8], output: &mut W) -> io::Res
     }
 }
 
-// Prints the results for this input, if `all` is the result of serving it in one piece.
+// Prints the results for this input. `all` is the result of serving it in one piece.
 fn print_answers<W: Write>(
     alloc: Global,
     whole: &[u8],
@@ -70,7 +70,7 @@ fn is_served(alloc: Global, whole: &[u8], most: usize, all: &ServeResult) -> boo
     }
 }
 
-// Prints how many of the failing runs end in a way that they should not.
+// Prints how many of the failing runs end in a wrong way.
 fn print_failing<W: Write>(
     alloc: Global,
     whole: &[u8],
@@ -139,7 +139,7 @@ fn is_allowed(stages: &[ServeResult], stopped: &ServeResult) -> bool {
     })
 }
 
-// Returns whether the search of 600 steps was interrupted at the end of one of its operations: the last one
+// Returns whether serving ended within the search of 600 steps, at the end of one of its operations: the last one
 // that was answered, or the next one.
 fn is_within_search(stopped: &ServeResult) -> bool {
     [
@@ -200,7 +200,7 @@ enum Ending {
     Wrong,
 }
 
-// Returns how serving the input ended. `fault` is the fault that the failing stream must cause.
+// Returns the ending of serving the input. `fault` is the fault that the failing stream must cause.
 fn ending_of(stages: &[ServeResult], stopped: &Option<ServeResult>, fault: ServeFault) -> Ending {
     match stopped {
         None => Ending::NoStore,
@@ -213,7 +213,7 @@ fn ending_of(stages: &[ServeResult], stopped: &Option<ServeResult>, fault: Serve
 }
 
 // Serves the input with a reader or writer that fails after 0 calls, after 1 call, and so on, until no call
-// fails. Returns the number of failing runs, and how many of them end in a way that they should not.
+// fails. Returns the number of failing runs, and how many of them end in a wrong way.
 fn failing_runs(
     alloc: Global,
     input: &[u8],
@@ -237,8 +237,8 @@ fn failing_runs(
     (1000, wrong)
 }
 
-// Prints the answer to a `load` whose length is out of range, in pieces of two sizes. Serving ends after this
-// answer, and the state stays the same.
+// Prints the answers to an input with a `load` whose length is out of range, in pieces of two sizes. Serving ends
+// after the answer to this `load`, and the state stays the same.
 fn refused_loads<W: Write>(
     alloc: Global,
     stages: &[ServeResult],
@@ -273,7 +273,7 @@ fn print_refused<W: Write>(
 }
 
 // Prints the result for a device that fails once, at each of its calls in turn: how many of these calls are
-// within `build`, and whether the store then opens correctly.
+// within `build`, and after how many of them the store opens with a wrong state.
 fn failed_builds<W: Write>(
     alloc: Global,
     stages: &[ServeResult],
@@ -312,7 +312,8 @@ fn builds_of(alloc: Global, text: &[u8], loaded: &ServeResult, built: &ServeResu
 enum FaultPosition {
     Before,
     Within {
-        /// Whether the store opens neither with the state before the build nor with the one after it.
+        /// Whether the store opens with a wrong state: one that is neither that before the build nor that after
+        /// it, or that changes by a crash.
         is_wrong: bool,
     },
     After,

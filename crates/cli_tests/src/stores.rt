@@ -16,8 +16,8 @@ pub(crate) struct ServeResult {
     pub(crate) shown: Vec<u8>,
 }
 
-/// The result of serving an input over a device that failed, with the answers of `show` in the next session and
-/// in the one after a crash.
+/// The result of serving an input over a device that failed. `opened` is the answer of `show` in the next
+/// session, `stopped` in the session after a crash that follows.
 #[derive(Drop)]
 pub(crate) struct FaultResult {
     pub(crate) served: ServeResult,
@@ -97,7 +97,7 @@ fn open_on_faulty_device(alloc: Global, calls: u64) -> Option<Session<MemDevice>
     opened(alloc, device)
 }
 
-// Returns the answers of `show` in the next session, and in the one after a crash.
+// Returns the answers of `show` in the next session, and in the session after a crash that follows.
 fn show_twice_reopened(alloc: Global, device: MemDevice) -> Option<(Vec<u8>, Vec<u8>)> {
     let (first, mut device) = show_reopened(alloc, device)?;
     device.crash(&[1, 1, 1, 1, 1, 1, 1, 1]);

@@ -7,9 +7,9 @@ use Rattle.std.proofs.lemmas.Bool.{and_parts, and_from, not-true, eqb-true}
 use Rattle.std.proofs.lemmas.Bool.Decides.{eqb_tells}
 use Rattle.std.proofs.lemmas.List.Sums.{sum_by-cons}
 use Rattle.plan_audit.specs.Passes.{has, are_distinct}
-use Rattle.move_ops.proofs.Fitting.{had_often, often_had}
+use Rattle.move_ops.proofs.FitLemmas.{had_often, often_had}
 use Rattle.fleet_reduction.proofs.SubfleetLemmas.{count_more, one_more}
-use Rattle.move_ops.proofs.Times.{none_some, some_same, times, one_here, none_here}
+use Rattle.move_ops.proofs.OccurrenceLemmas.{none_some, some_same, times, one_here, none_here}
 
 -- If a test is stricter than another one, and rejects an item that the other one passes, it passes fewer items
 pub count_less : {X : Type 0} (f g : X → Bool) (es : List (ℕ × X)) (name : ℕ) (x : X) → ((y : X) → g y ≡ true → f y ≡ true) → lookup (nat_eq name) es ≡ Some x → f x ≡ true → g x ≡ false

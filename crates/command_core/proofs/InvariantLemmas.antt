@@ -28,8 +28,8 @@ use Rattle.command_types.specs.declared.refusals.Refusal.{Refusal}
 use Rattle.command_types.specs.declared.refusals.Refusal.TheVariants.{NoSuchRequest, Pinned}
 use Rattle.command_types.specs.declared.commands.Command.{Command}
 use Rattle.command_types.specs.declared.commands.Command.TheVariants.{Load, Add, Add1, Withdraw, Pin, Unpin, Build, Search, Deviation, Anneal, Reduce, Adopt}
-use Rattle.command_types.proofs.AddLemmas.{single_is_request, pair_is_request, IsNext, new_problem, same_at_live}
-use Rattle.command_types.proofs.PassLemmas.{passes_same, all_feasible_same, numbers_live, routes_live, pins_live}
+use Rattle.command_types.proofs.AddLemmas.{single_is_request, pair_is_request, IsNext, new_problem, same_at_known}
+use Rattle.command_types.proofs.PassLemmas.{passes_same, all_feasible_same, numbers_known, routes_known, pins_known}
 use Rattle.fleet_reduction.proofs.PickedLemmas.{none_feasible}
 use Rattle.command_core.proofs.PinLemmas.{none_all_feasible, none_passes, set_all, unpinned_passes, pinned_passes}
 use Rattle.seeded_search.proofs.SearchLemmas.{placed_all_passes}
@@ -111,9 +111,9 @@ module _ (laws : LowerLaws) (j : JobValue) (is : IsJob j) where
   added_job r next request =
       let p = j.problem in
       let fresh = laws.fresh in
-      let agree = same_at_live fresh p r (is.problem) next (laws.put_others) (laws.below) in
+      let agree = same_at_known fresh p r (is.problem) next (laws.put_others) (laws.below) in
       let good = passes_same (laws.feasibility) (laws.local) (laws.plans) p (with_request p r) j.pins j.plan agree (is.plan) in
-      let live = numbers_live p j.pins (pins_live (laws.pins) p j.pins j.plan (is.plan)) in
+      let live = numbers_known p j.pins (pins_known (laws.pins) p j.pins j.plan (is.plan)) in
       record {
         problem = new_problem fresh p r (is.problem) next (laws.put) request;
         fleet = is.fleet;
@@ -130,8 +130,8 @@ module _ (laws : LowerLaws) (j : JobValue) (is : IsJob j) where
       let p = j.problem in
       let take = laws.take in
       let valid = is.problem in
-      let live = numbers_live p j.plan (routes_live (laws.local) (laws.plans) p j.pins j.plan (is.plan)) in
-      let live_pins = numbers_live p j.pins (pins_live (laws.pins) p j.pins j.plan (is.plan)) in
+      let live = numbers_known p j.plan (routes_known (laws.local) (laws.plans) p j.pins j.plan (is.plan)) in
+      let live_pins = numbers_known p j.pins (pins_known (laws.pins) p j.pins j.plan (is.plan)) in
       let others = pins_others p name valid (laws.named) j.pins r named free in
       let good = withdrawn_passes p name valid (laws.feasibility) (laws.take_others) j.pins j.plan (is.plan) (is.fleet) live live_pins others (is.pins) in
       record {

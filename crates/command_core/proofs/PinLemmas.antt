@@ -26,7 +26,7 @@ none_pinned (suc n) = none_pinned n
 pub none_passes : (p : Instance) → passes p (no_stops p) (no_stops p) ≡ true
 none_passes p =
     from_parts p (no_stops p) (no_stops p) (record {
-      live = ap (list_all (λ n. is_some (stop_at p n))) (nothing p.fleet);
+      known = ap (list_all (λ n. is_some (stop_at p n))) (nothing p.fleet);
       distinct = ap are_distinct (nothing p.fleet);
       fleet = length-replicate p.fleet [];
       feasible = none_all_feasible p p.fleet;
@@ -74,7 +74,7 @@ module _ (p : Instance) (pins routes : List (List ℕ)) (good : passes p pins ro
   unpinned_passes v =
       let parts = parts_of p pins routes good in
       from_parts p (with_route pins v []) routes (record {
-        live = parts.live;
+        known = parts.known;
         distinct = parts.distinct;
         fleet = parts.fleet;
         feasible = parts.feasible;
@@ -88,4 +88,4 @@ module _ (p : Instance) (pins routes : List (List ℕ)) (good : passes p pins ro
       let e : suc i - 1 ≡ i = omega arith in
       let kept : begin_with_pins routes (set pins (suc i - 1) (take k (route_of routes (suc i)))) ≡ true = rw e (set_front routes pins i k (parts.pinned)) in
       from_parts p (with_route pins (suc i) (take k (route_of routes (suc i)))) routes
-      (record { live = parts.live; distinct = parts.distinct; fleet = parts.fleet; feasible = parts.feasible; pinned = kept })
+      (record { known = parts.known; distinct = parts.distinct; fleet = parts.fleet; feasible = parts.feasible; pinned = kept })

@@ -8,7 +8,7 @@ use Rattle.plan_types.specs.Instance.{Instance, stop_at}
 use Rattle.route_sched.specs.Route.{AreDistinctStops}
 use Rattle.plan_audit.specs.Passes.{are_distinct, are_distinct_stops, begin_with_pins, feasible_alone, passes}
 use Rattle.plan_audit.specs.Locality.{PlansAreDisjointRoutes}
-use Rattle.move_ops.proofs.Times.{distinct_from}
+use Rattle.move_ops.proofs.OccurrenceLemmas.{distinct_from}
 use Rattle.command_core.proofs.CountLemmas.{at_most_once}
 
 -- The test of a plan, as the conjunction of its parts

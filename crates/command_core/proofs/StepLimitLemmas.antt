@@ -1,7 +1,7 @@
 -- If accepted commands make steps, the number of steps stays within the limit of a state
 use Rattle.std.proofs.Common.{◌≡◌, ℕ, ◌+◌, ◌<◌, ◌≤◌, ◌^◌, ◌&&◌, nat_le, not, Bool, true, false, cond, Some, None, refl, sym, arith}
 use Rattle.std.proofs.lemmas.Bool.{and_parts, leb-true}
-use Rattle.move_ops.proofs.Times.{none_some}
+use Rattle.move_ops.proofs.OccurrenceLemmas.{none_some}
 use Rattle.command_types.specs.Job.{JobValue}
 use Rattle.command_core.specs.KeptSearch.{command_for}
 use Rattle.command_core.specs.Refusals.{job_refusal, steps_refusal}

@@ -17,11 +17,11 @@ use Rattle.plan_audit.specs.Locality.{FeasibilityIsLocal}
 use Rattle.move_ops.specs.Insertion.{request_named}
 use Rattle.move_ops.specs.Moves.{is_of_named}
 use Rattle.command_core.specs.Effects.{serves, route_without, remaining_route, remaining_routes}
-use Rattle.move_ops.proofs.Fitting.{often_had}
-use Rattle.move_ops.proofs.Removing.{times_kept}
-use Rattle.move_ops.proofs.Times.{none_some, some_same, times, times-append, once_few, once_from}
+use Rattle.move_ops.proofs.FitLemmas.{often_had}
+use Rattle.move_ops.proofs.PlanRemovalLemmas.{times_kept}
+use Rattle.move_ops.proofs.OccurrenceLemmas.{none_some, some_same, times, times-append, once_few, once_from}
 use Rattle.command_core.proofs.CountLemmas.{standing, at_most_once, distinct_from, all_standing, all_split, all_joined, times_front}
-use Rattle.command_types.proofs.PassLemmas.{parts_of, from_parts, Agree, feasible_same, all_feasible_same, live_same}
+use Rattle.command_types.proofs.PassLemmas.{parts_of, from_parts, Agree, feasible_same, all_feasible_same, known_same}
 
 -- If one of the lists has a stop of the request, the request is planned
 planned_by : (lists : List (List ℕ)) (r : Request) (n : ℕ) → is_some (stop_in n r) ≡ true → has_stop lists n ≡ true → is_planned lists r ≡ true
@@ -210,17 +210,17 @@ module _ (p : Instance) (name : ℕ) (valid : IsInstance p) where
     live_of_kept (n ∷ ns) kept = and_from (is_some (stop_at p n)) _ kept.0.0 (live_of_kept ns kept.1)
 
     module _ (pins routes : List (List ℕ)) (good : passes p pins routes ≡ true) (long : length pins ≡ p.fleet) (live : AllByRecursion (AllByRecursion (IsKnownStop p)) routes)
-        (pins_live : AllByRecursion (AllByRecursion (IsKnownStop p)) pins) (other : AllByRecursion (AllByRecursion IsOther) pins) (pins_feasible : list_all (feasible_alone p) pins ≡ true) where
+        (pins_known : AllByRecursion (AllByRecursion (IsKnownStop p)) pins) (other : AllByRecursion (AllByRecursion IsOther) pins) (pins_feasible : list_all (feasible_alone p) pins ≡ true) where
       pub withdrawn_passes : passes (without_request p name) pins (remaining_routes p name pins routes) ≡ true
       withdrawn_passes =
           let q = without_request p name in
           let new = remaining_routes p name pins routes in
           let parts = parts_of p pins routes good in
-          let all = lefts pins routes (long ∙ sym (parts.fleet)) live (parts.feasible) (parts.pinned) (kept_lists pins pins_live other) other pins_feasible in
+          let all = lefts pins routes (long ∙ sym (parts.fleet)) live (parts.feasible) (parts.pinned) (kept_lists pins pins_known other) other pins_feasible in
           let kept = all_joined IsKept new (all.kept) in
           let fewer = all.fewer in
           from_parts q pins new (record {
-            live = sym (live_same p q IsKept (agree others) (concat new) kept) ∙ live_of_kept (concat new) kept;
+            known = sym (known_same p q IsKept (agree others) (concat new) kept) ∙ live_of_kept (concat new) kept;
             distinct = distinct_from (concat new) (λ n. let h = at_most_once (concat routes) (parts.distinct) n in let k = fewer n in omega arith);
             fleet = all.long ∙ parts.fleet;
             feasible = all.feasible;
@@ -228,7 +228,7 @@ module _ (p : Instance) (name : ℕ) (valid : IsInstance p) where
           })
 
       pub pins_still_feasible : list_all (feasible_alone (without_request p name)) pins ≡ true
-      pins_still_feasible = sym (all_feasible_same p (without_request p name) IsKept (agree others) law pins (kept_lists pins pins_live other)) ∙ pins_feasible
+      pins_still_feasible = sym (all_feasible_same p (without_request p name) IsKept (agree others) law pins (kept_lists pins pins_known other)) ∙ pins_feasible
 
 -- The remaining stops of a route are current and distinct in the problem without the request
 pub without_once : TakeKeepsOthers → (p : Instance) (name : ℕ) → IsInstance p → (route : List ℕ) → AreDistinctStops p route → AreDistinctStops (without_request p name) (route_without p name route)

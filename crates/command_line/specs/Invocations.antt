@@ -169,7 +169,7 @@ o >>= f = option_and_then f o
 abbrev pub paths_from : Text → Text → Text → Option PathsValue
 paths_from kind instance solution = option_map (λ k. record { format = k; instance = instance; solution = solution }) (format_named kind)
 
--- Whether the last argument has this name. No other one is allowed.
+-- Whether the last argument is given. It must be this word.
 abbrev pub flag_named : Text → Option Text → Option Bool
 flag_named name None = Some false
 flag_named name (Some word) = if bytes_eq name word then Some true else None

@@ -1,5 +1,5 @@
-//! The definition of the commands for `clap`: each command with its arguments, and the errors for arguments
-//! that `clap` accepts and this crate does not.
+//! The definition of the commands for `clap`: each command with its arguments. Also the usage errors for
+//! arguments that `clap` accepts and this crate does not.
 ghost use Rattle.std.specs.Prelude.{◌≡◌, IfOk, codes};
 ghost use Rattle.clap.specs.Words.{App, Rule, app_of, kind_of, new_app, new_rule, with_rule, with_subcommand};
 ghost use Rattle.command_line.specs.CommandLine.{IsKindNames, IsLeafCommand, IsModeNames, IsPlannerCommand, IsArg, adopt_app, audits_app, draw_app, load_app, mode_rule, paths_app, kind_rule, run_app, solve_app, solves_app, store_app, timetable_app, upgrade_app, with_plan_rules, with_search_apps, with_solution_apps, with_store_apps, required_rule};

@@ -98,12 +98,12 @@ kept_both (Applied command reply ∷ acts) b = by_answer reply.answer reply.call
     by_answer (Err (Core refusal)) n more = more
 
 -- The operations that are requested if the device does not fail begin with those that both lists of acts keep.
-pub asks_both : {D : Type 0} (a b : List Act) (first mid : SessionValue D) (f g : ServerState → Reply) (text : List ℕ)
+pub requests_both : {D : Type 0} (a b : List Act) (first mid : SessionValue D) (f g : ServerState → Reply) (text : List ℕ)
     → ((later : List Fate) → f (as_server_state first (fates_of a ++ later)) ≡ preceded text (executed_of a) (g (as_server_state mid later)))
     → ((later : List Fate) → IsPrefixOf (kept_of a) (f (as_server_state first (without_failures (fates_of a) ++ later))).commands)
     → ((later : List Fate) → IsPrefixOf (kept_of b) (g (as_server_state mid (without_failures (fates_of b) ++ later))).commands)
     → (later : List Fate) → IsPrefixOf (kept_of (a ++ b)) (f (as_server_state first (without_failures (fates_of (a ++ b)) ++ later))).commands
-asks_both a b first mid f g text says requests_kept more later = by (kept_both a b)
+requests_both a b first mid f g text says requests_kept more later = by (kept_both a b)
   where
     whole : (f (as_server_state first (without_failures (fates_of (a ++ b)) ++ later))).commands ≡ (f (as_server_state first (without_failures (fates_of a) ++ (without_failures (fates_of b) ++ later)))).commands
     whole = ap (λ fates. (f (as_server_state first fates)).commands) (unfailed_before a b later)

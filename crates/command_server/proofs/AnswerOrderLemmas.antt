@@ -38,10 +38,10 @@ use Rattle.std.proofs.lemmas.Bool.{le-leb}
 use Rattle.std.proofs.lemmas.Grind.{flat_map-append}
 use Rattle.std.proofs.lemmas.List.{append_cancel_left}
 use Rattle.std.proofs.lemmas.List.Sums.{sum_by-append, sum_by-cons}
-use Rattle.command_text.specs.Answering.{Reply, served}
+use Rattle.command_text.specs.Answering.{Reply, pieces_reply}
 use Rattle.command_text.specs.Cutting.{pieces_of}
 use Rattle.command_text.specs.Readings.{Reading}
-use Rattle.recover.specs.Replies.{acked, is_acknowledged, kept_first}
+use Rattle.recover.specs.Replies.{acknowledged_count, is_acknowledged, kept_first}
 use Rattle.recover.specs.Sessions.{SessionValue}
 use Rattle.recover.specs.Applying.{IsAnswer, Makes, denial}
 use Rattle.recover.specs.Composition.{IsRunOn}
@@ -135,25 +135,25 @@ within m (turn ∷ turns) events others e all = at (λ more second both. within 
 
 -- ---- the operations that turns executed are acknowledged
 
-acked_cons : (m : ℕ) (reply : SessionReply) (replies : List SessionReply) → acked m (reply ∷ replies) ≡ cond (is_acknowledged m reply) 1 0 + acked m replies
-acked_cons m reply replies = sum_by-cons (λ r. cond (is_acknowledged m r) 1 0) reply replies
+acknowledged_count_cons : (m : ℕ) (reply : SessionReply) (replies : List SessionReply) → acknowledged_count m (reply ∷ replies) ≡ cond (is_acknowledged m reply) 1 0 + acknowledged_count m replies
+acknowledged_count_cons m reply replies = sum_by-cons (λ r. cond (is_acknowledged m r) 1 0) reply replies
 
-acked_both : (m : ℕ) (a b : List SessionReply) → acked m (a ++ b) ≡ acked m a + acked m b
-acked_both m a b = sum_by-append (λ r. cond (is_acknowledged m r) 1 0) a b
+acknowledged_count_both : (m : ℕ) (a b : List SessionReply) → acknowledged_count m (a ++ b) ≡ acknowledged_count m a + acknowledged_count m b
+acknowledged_count_both m a b = sum_by-append (λ r. cond (is_acknowledged m r) 1 0) a b
 
-counted : (m : ℕ) (acts : List Act) → AllByRecursion (λ (reply : SessionReply). reply.calls ≤ m) (replies_of acts) → length (executed_of acts) ≤ acked m (replies_of acts)
+counted : (m : ℕ) (acts : List Act) → AllByRecursion (λ (reply : SessionReply). reply.calls ≤ m) (replies_of acts) → length (executed_of acts) ≤ acknowledged_count m (replies_of acts)
 counted m [] all = omega arith
 counted m (Text some ∷ acts) all = counted m acts all
 counted m (Applied command reply ∷ acts) all = by_answer reply.answer reply.calls all.0 (counted m acts all.1)
   where
-    by_answer : (answer : Result (Unit {0}) Denial) (n : ℕ) → n ≤ m → length (executed_of acts) ≤ acked m (replies_of acts)
-        → length (executed_of (Applied command (record { answer = answer; calls = n }) ∷ acts)) ≤ acked m (record { answer = answer; calls = n } ∷ replies_of acts)
+    by_answer : (answer : Result (Unit {0}) Denial) (n : ℕ) → n ≤ m → length (executed_of acts) ≤ acknowledged_count m (replies_of acts)
+        → length (executed_of (Applied command (record { answer = answer; calls = n }) ∷ acts)) ≤ acknowledged_count m (record { answer = answer; calls = n } ∷ replies_of acts)
     by_answer (Ok done) n le rest =
-        let one : acked m (record { answer = Ok done; calls = n } ∷ replies_of acts) ≡ 1 + acked m (replies_of acts) =
-        acked_cons m (record { answer = Ok done; calls = n }) (replies_of acts) ∙ ap (λ (b : Bool). cond b 1 0 + acked m (replies_of acts)) (le-leb n m le) in
+        let one : acknowledged_count m (record { answer = Ok done; calls = n } ∷ replies_of acts) ≡ 1 + acknowledged_count m (replies_of acts) =
+        acknowledged_count_cons m (record { answer = Ok done; calls = n }) (replies_of acts) ∙ ap (λ (b : Bool). cond b 1 0 + acknowledged_count m (replies_of acts)) (le-leb n m le) in
         omega (arith, rest, one)
     by_answer (Err denial) n le rest =
-        let none : acked m (record { answer = Err denial; calls = n } ∷ replies_of acts) ≡ 0 + acked m (replies_of acts) = acked_cons m (record { answer = Err denial; calls = n }) (replies_of acts) in
+        let none : acknowledged_count m (record { answer = Err denial; calls = n } ∷ replies_of acts) ≡ 0 + acknowledged_count m (replies_of acts) = acknowledged_count_cons m (record { answer = Err denial; calls = n }) (replies_of acts) in
         omega (arith, rest, none)
 
 timely_replies : (m : ℕ) (turns : List Turn) → AllByRecursion IsTurn turns → AllByRecursion (λ (turn : Turn). turn.calls ≤ m) turns
@@ -205,16 +205,16 @@ module _ {D : Type 0} (on : sectors.Ghosts D) where
 
 module _ {D : Type 0} (on : sectors.Ghosts D) (reading : Reading) (old new : SessionValue D) (input : List ℕ) (m : ℕ) where
   reported_acknowledged : (acts : List Act) (t : List ℕ) (turns : List Turn) (events others : List Event) → IsRunOfInput on reading old input acts new
-      → AreReported old (λ s. served reading s (pieces_of input)) acts t turns → events_by turns ≡ events ++ others
+      → AreReported old (λ s. pieces_reply reading s (pieces_of input)) acts t turns → events_by turns ≡ events ++ others
       → AllByRecursion (λ event. calls_at event ≤ m) events → ReportsAcknowledged reading old input acts m (put_by events)
   reported_acknowledged acts t turns events others done reported e all =
       let w : Within m turns (put_by events) = within m turns events others e all in
       let first : List Act = acts_by w.some in
       let whole : acts ≡ first ++ acts_by w.following = reported.does ∙ ap acts_by w.split ∙ acts_both w.some w.following in
       let each : AllByRecursion IsTurn w.some = all_first IsTurn w.some w.following (subst (AllByRecursion IsTurn) w.split reported.each) in
-      let few : length (executed_of first) ≤ acked m (replies_of first) = counted m first (timely_replies m w.some each w.timely) in
-      let both : acked m (replies_of acts) ≡ acked m (replies_of first) + acked m (replies_of (acts_by w.following)) =
-      ap (λ done. acked m (replies_of done)) whole ∙ ap (acked m) (replies_both first (acts_by w.following)) ∙ acked_both m (replies_of first) (replies_of (acts_by w.following)) in
+      let few : length (executed_of first) ≤ acknowledged_count m (replies_of first) = counted m first (timely_replies m w.some each w.timely) in
+      let both : acknowledged_count m (replies_of acts) ≡ acknowledged_count m (replies_of first) + acknowledged_count m (replies_of (acts_by w.following)) =
+      ap (λ done. acknowledged_count m (replies_of done)) whole ∙ ap (acknowledged_count m) (replies_both first (acts_by w.following)) ∙ acknowledged_count_both m (replies_of first) (replies_of (acts_by w.following)) in
       record {
         first = first;
         begins = record { rest = acts_by w.following; whole = whole };
@@ -261,8 +261,8 @@ module _ {D : Type 0} (on : sectors.Ghosts D) where
       noted = append_cancel_left before.events (events ++ others) (events_by cut.answered.turns ++ part)
           (sym e ∙ cut.part.extends.noted ∙ ap (λ l. l ++ part) cut.written.noted ∙ append_assoc before.events (events_by cut.answered.turns) part)
 
-      reported : AreReported old (λ s. served reading s (pieces_of input)) (cut.answered.acts ++ cut.reports.acts) (cut.text ++ take cut.part.len cut.last) turns
-      reported = reported_both old cut.reported (λ s. served reading s (pieces_of input)) (still reading cut.commands cut.following) cut.answered.acts cut.reports.acts cut.text
+      reported : AreReported old (λ s. pieces_reply reading s (pieces_of input)) (cut.answered.acts ++ cut.reports.acts) (cut.text ++ take cut.part.len cut.last) turns
+      reported = reported_both old cut.reported (λ s. pieces_reply reading s (pieces_of input)) (still reading cut.commands cut.following) cut.answered.acts cut.reports.acts cut.text
           (take cut.part.len cut.last) cut.answered.turns (turn ∷ [])
           cut.answered.reported cut.answered.says
           (reported_once cut.reported (still reading cut.commands cut.following) cut.reports.acts (take cut.part.len cut.last) cut.part.texts (on.calls new.device)

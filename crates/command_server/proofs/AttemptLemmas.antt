@@ -57,7 +57,7 @@ module _ {D : Type 0} where
   requested_as s f same acts is p =
       requested_front s f same acts (λ fates. record { rest = []; whole = ap (λ (r : Reply). r.commands) (is fates) ∙ sym (append-nil (f (as_server_state s fates)).commands) }) p
 
-  -- acts that were requested, followed by more that were requested, were all requested
+  -- if acts and then others after them were requested, all of them in a row were requested
   pub requested_both : (a b : List Act) (first mid : SessionValue D) (f g : ServerState → Reply) (text : List ℕ)
       → ((later : List Fate) → f (as_server_state first (fates_of a ++ later)) ≡ preceded text (executed_of a) (g (as_server_state mid later)))
       → AreRequested first f a → AreRequested mid g b → AreRequested first f (a ++ b)

@@ -92,7 +92,7 @@ reported_spent false (Some r) due n h = absurd cc
 reported_spent false None due n h = at_the_last due n h
 
 module _ {D : Type 0} (on : sectors.Ghosts D) where
-  -- a broken session stays broken and gives no other answer
+  -- a broken session stays broken and never answers `Spent`
   none_broken : (acts : List Act) (old new : SessionValue D) → old.is_broken ≡ true → IsRunOn on old (commands_of acts) (replies_of acts) new → Contains (fates_of acts) SpentFate → ⊥
   none_broken [] old new broken run is = none_of_none is
   none_broken (Text true ∷ acts) old new broken run is = none_broken acts old new broken run (following Done (fates_of acts) (λ e. cc) is)

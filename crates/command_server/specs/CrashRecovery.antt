@@ -1,12 +1,12 @@
--- The headline of serving. A crash at any moment, with any choice that the device allows, recovers to the state
--- after a prefix of the kept operations: those executed, and the one during which the device failed, if any.
--- This prefix has every acknowledged operation and at most one more, and the kept operations are a prefix of
--- those that the input requests. The recovered plan passes the auditor, and costs no more than any incumbent
--- since the last change of requests or pins.
+-- The headline of serving. A crash at any moment, with any image that the device allows, recovers to the state
+-- after a prefix of the kept operations: those executed, and the one during which the device failed, if any. This
+-- prefix has every acknowledged operation and at most one more, and the kept operations are a prefix of those
+-- that the input requests. The recovered plan passes the auditor, and costs no more than any incumbent since the
+-- last change of requests or pins.
 use Rattle.std.specs.Prelude.{◌≡◌, ℕ, false, List, ◌++◌, Result, Ok, Err, ⊤}
 use Rattle.command_types.specs.declared.commands.Command.{Command}
 use Rattle.command_types.specs.declared.states.State.{State}
-use Rattle.command_text.specs.Answering.{Fate, served}
+use Rattle.command_text.specs.Answering.{Fate, pieces_reply}
 use Rattle.command_text.specs.Cutting.{Piece, pieces_of}
 use Rattle.command_text.specs.Readings.{Reading}
 use Rattle.checkpoint.specs.declared.faults.StoreFault.{StoreFault}
@@ -14,7 +14,7 @@ use Rattle.recover.specs.Headline.{OpensToImageState, IsRecovered}
 use Rattle.recover.specs.Composition.{IsRunOn}
 use Rattle.recover.specs.Moments.{RunLeaves}
 use Rattle.recover.specs.Opening.{ReturnsUnlessFailed}
-use Rattle.recover.specs.Replies.{acked}
+use Rattle.recover.specs.Replies.{acknowledged_count}
 use Rattle.recover.specs.Sessions.{SessionValue}
 use Rattle.recover.specs.declared.replies.Reply.{Reply}
 use Rattle.sector_disk.specs.Sectors.{Throughout}
@@ -24,12 +24,11 @@ use Rattle.command_server.specs.ServeContract.{AreRequested, EndsOrIsCut, as_ser
 use Rattle.command_server.specs.Streams.{Stream}
 use Rattle.command_server.specs.declared.answering.ServeFault.{ServeFault}
 
--- The operations that an input requests, if its attempts have these fates.
+-- The operations that an input requests if its attempts have these fates, in order.
 abbrev pub requested_commands : {D : Type 0} → Reading → SessionValue D → List Piece → List Fate → List Command
-requested_commands reading session pieces fates = (served reading (as_server_state session fates) pieces).commands
+requested_commands reading session pieces fates = (pieces_reply reading (as_server_state session fates) pieces).commands
 
--- The operations that an input requests, if its attempts have the fates of these acts, except that the device
--- does not fail.
+-- The operations that an input requests if its attempts have the fates of these acts, but the device never fails.
 abbrev pub requested_by : {D : Type 0} → Reading → SessionValue D → List Piece → List Act → List Command
 requested_by reading session pieces acts = requested_commands reading session pieces (without_failures (fates_of acts))
 
@@ -39,7 +38,7 @@ requested_by reading session pieces acts = requested_commands reading session pi
 abbrev pub RecoversPrefixOf : {D : Type 0} → Reading → SessionValue D → List ℕ → List Act → ℕ → Result State StoreFault → Type 0
 RecoversPrefixOf reading old input acts m outcome =
     IsPrefixOf (kept_of acts) (requested_by reading old (pieces_of input) acts)
-    × ReturnsUnlessFailed (IsRecovered old.state (kept_of acts) (acked m (replies_of acts))) outcome
+    × ReturnsUnlessFailed (IsRecovered old.state (kept_of acts) (acknowledged_count m (replies_of acts))) outcome
 
 module _ {D : Type 0} (on : sectors.Ghosts D) where
   -- At each moment from old to new, each crash image recovers to the state after a prefix of the kept
@@ -55,11 +54,11 @@ module _ {D : Type 0} (on : sectors.Ghosts D) where
   acts_of (Ok done) reading old input before after_it new served = served.acts
   acts_of (Err fault) reading old input before after_it new cut = cut.answered.acts ++ cut.reports.acts
 
-  -- These acts are a run. Each operation that was tried is the one that the input requested at that point, and
-  -- the input requests all operations that the run keeps.
+  -- These acts are a run. Each operation that was attempted is the one that the input requested at that point,
+  -- and the input requests all operations that the run keeps.
   pub record IsRunOfInput (reading : Reading) (old : SessionValue D) (input : List ℕ) (acts : List Act) (new : SessionValue D) : Type 0 where
     pub run : IsRunOn on old (commands_of acts) (replies_of acts) new
-    pub requested : AreRequested old (λ s. served reading s (pieces_of input)) acts
+    pub requested : AreRequested old (λ s. pieces_reply reading s (pieces_of input)) acts
     pub requests_kept : IsPrefixOf (kept_of acts) (requested_by reading old (pieces_of input) acts)
 
   -- Law: the acts of serving an input are a run of that input.

@@ -1,14 +1,15 @@
--- The two kinds of knowledge about an input.
+-- The kinds of knowledge about an input.
 use Rattle.std.specs.Prelude.{ℕ, List, Option, Some, ⊤}
 use Rattle.command_server.specs.declared.streams.Source as sources
 
--- Its bytes are known beforehand, or from a text that begins with the results of its reads.
+-- The bytes of the input are known beforehand; or the input is this text, which begins with the bytes that its
+-- reads returned.
 pub data InputKnowledge : Type 0 where
   Beforehand : InputKnowledge
   ByReads : List ℕ → InputKnowledge
 
 module _ {R : Type 0} (on : sources.Ghosts R) where
-  -- The input is known in this way, up to the reader's position.
+  -- The knowledge fits the reader: a text begins with the bytes that the reads so far returned.
   abbrev pub Fits : InputKnowledge → R → Type 0
   Fits Beforehand reader = ⊤
   Fits (ByReads text) reader = on.gave reader text

@@ -5,8 +5,8 @@ use Rattle.std.specs.Str.Lines.{strip_carriage_return}
 use Rattle.text_lines.specs.Lines.{HasNoLineFeed}
 use Rattle.command_core.specs.Runs.{after}
 use Rattle.command_types.specs.declared.commands.Command.{Command}
-use Rattle.command_text.specs.Answering.{Fate, Done, Reply, ServerState, executed_all, joined_replies, served}
-use Rattle.command_text.specs.Parsing.{requested}
+use Rattle.command_text.specs.Answering.{Fate, Done, Reply, ServerState, operations_reply, joined_replies, pieces_reply}
+use Rattle.command_text.specs.Parsing.{parsed_line}
 use Rattle.command_text.specs.Cutting.{Piece, is_end, pieces_of}
 use Rattle.command_text.specs.Readings.{Reading}
 use Rattle.command_server.specs.declared.answering.ServeFault.{ServeFault}
@@ -19,7 +19,7 @@ use Rattle.recover.specs.Sessions.{SessionValue}
 use Rattle.recover.specs.declared.replies.Reply.{Reply as SessionReply}
 use Rattle.sector_disk.specs.declared.sectors.Sectors as sectors
 
--- A session with the fates of its attempts, as the definition of the answers takes it.
+-- A session with the fates that its attempts will have, as the definition of the answers takes it.
 abbrev pub as_server_state : {D : Type 0} → SessionValue D → List Fate → ServerState
 as_server_state s fates = record { state = s.state; is_broken = s.is_broken; fates = fates }
 
@@ -27,14 +27,13 @@ as_server_state s fates = record { state = s.state; is_broken = s.is_broken; fat
 abbrev pub preceded : List ℕ → List Command → Reply → Reply
 preceded text commands r = record { text = text ++ r.text; commands = commands ++ r.commands; left = r.left }
 
--- The answers that are still due: to these operations of a command that makes steps, if one is being executed,
--- and then to these pieces.
+-- The answers that are still due: first to these operations, if a command that makes steps is being executed, and
+-- then to these pieces.
 abbrev pub still : Reading → Option (List Command) → List Piece → ServerState → Reply
-still reading None pieces s = served reading s pieces
-still reading (Some commands) pieces s = let r = executed_all s commands in joined_replies r (served reading r.left pieces)
+still reading None pieces s = pieces_reply reading s pieces
+still reading (Some commands) pieces s = let r = operations_reply s commands in joined_replies r (pieces_reply reading r.left pieces)
 
--- The text is a prefix of what is written, and the operations that these acts executed are a prefix of those
--- executed.
+-- The text of the reply begins with this text, and its operations begin with those that these acts executed.
 pub record Begins (reported : List ℕ) (acts : List Act) (reply : Reply) : Type 0 where
   pub text : IsPrefixOf reported reply.text
   pub commands : IsPrefixOf (executed_of acts) reply.commands
@@ -56,8 +55,8 @@ pub record AreRequested {D : Type 0} (old : SessionValue D) (from : ServerState 
       → (later : List Fate) → IsPrefixOf (executed_of front ++ command ∷ []) (from (as_server_state old (fates_of front ++ Done ∷ later))).commands
 
 module _ {D : Type 0} (on : sectors.Ghosts D) where
-  -- These acts led the session from old to new, with this text. Whatever the fates of later attempts, the reply
-  -- `from` of the old session is this text, followed by the reply `to` of the new session.
+  -- These acts led the session from `old` to `new`, and this text reports them. Whatever the fates of later
+  -- attempts, the reply `from` of the old session is this text, followed by the reply `to` of the new session.
   pub record Leads (old : SessionValue D) (from : ServerState → Reply) (text : List ℕ) (new : SessionValue D) (to : ServerState → Reply) : Type 0 where
     pub acts : List Act
     pub turns : List Turn
@@ -68,7 +67,7 @@ module _ {D : Type 0} (on : sectors.Ghosts D) where
     pub requests_kept : (later : List Fate) → IsPrefixOf (kept_of acts) (from (as_server_state old (without_failures (fates_of acts) ++ later))).commands
     pub state : new.state ≡ after old.state (executed_of acts)
 
-  -- Like `Leads`, for at most one act, whose report was not written yet.
+  -- Like `Leads`, for at most one act and for a text that reports it but may not be written yet.
   pub record Reports (old : SessionValue D) (from : ServerState → Reply) (text : List ℕ) (new : SessionValue D) (to : ServerState → Reply) : Type 0 where
     pub acts : List Act
     pub run : IsRunOn on old (commands_of acts) (replies_of acts) new
@@ -83,35 +82,36 @@ module _ {D : Type 0} (on : sectors.Ghosts D) where
   pub record AreAnswered (reading : Reading) (old : SessionValue D) (pieces following : List Piece) (turns : List Turn) : Type 0 where
     pub mid : SessionValue D
     pub text : List ℕ
-    pub leads : Leads old (λ s. served reading s pieces) text mid (λ s. served reading s following)
+    pub leads : Leads old (λ s. pieces_reply reading s pieces) text mid (λ s. pieces_reply reading s following)
     pub rest : List Turn
     pub first : turns ≡ leads.turns ++ rest
 
-  -- These acts led the session from old to new: their operations and replies are a run. The session's answer to
-  -- the input, by the fates of the acts, was written. The operations of this answer are exactly the
-  -- acknowledged ones, and the new state is the one after them. Each operation that was tried, whether done or
-  -- denied, is the one that the input requested at that point. If the device had not failed, the input would
-  -- also have requested the operation during which it failed. The acts were reported turn by turn, each after
-  -- the calls of its act had finished. The answers to each prefix of the input's pieces were flushed before the
-  -- next piece was begun.
+  -- These acts led the session from `old` to `new`: their operations and replies are a run. The session's answer
+  -- to the input, by the fates of the acts, was written. The operations of this answer are exactly the
+  -- acknowledged ones, and the new state is the one after them. Each operation that was attempted, whether done
+  -- or not, is the one that the input requested at that point. If the device had not failed, the input would also
+  -- have requested the operation during which it failed. The acts were reported turn by turn, each after the
+  -- calls of its act had finished. The answers to each prefix of the input's pieces were flushed before the next
+  -- piece was begun.
   pub record IsServed (reading : Reading) (old : SessionValue D) (input : List ℕ) (before after_it : Stream) (new : SessionValue D) : Type 0 where
     pub acts : List Act
     pub turns : List Turn
     pub run : IsRunOn on old (commands_of acts) (replies_of acts) new
-    pub reported : AreReported old (λ s. served reading s (pieces_of input)) acts (served reading (as_server_state old (fates_of acts)) (pieces_of input)).text turns
+    pub reported : AreReported old (λ s. pieces_reply reading s (pieces_of input)) acts (pieces_reply reading (as_server_state old (fates_of acts)) (pieces_of input)).text turns
     pub lines : (some following : List Piece) → pieces_of input ≡ some ++ following → AreAnswered reading old (pieces_of input) following turns
-    pub written : Extends before after_it (events_by turns) (served reading (as_server_state old (fates_of acts)) (pieces_of input)).text
-    pub left : (served reading (as_server_state old (fates_of acts)) (pieces_of input)).left ≡ as_server_state new []
-    pub executed : (served reading (as_server_state old (fates_of acts)) (pieces_of input)).commands ≡ executed_of acts
-    pub requested : AreRequested old (λ s. served reading s (pieces_of input)) acts
-    pub requests_kept : IsPrefixOf (kept_of acts) (served reading (as_server_state old (without_failures (fates_of acts))) (pieces_of input)).commands
-    pub state : new.state ≡ after old.state (served reading (as_server_state old (fates_of acts)) (pieces_of input)).commands
+    pub written : Extends before after_it (events_by turns) (pieces_reply reading (as_server_state old (fates_of acts)) (pieces_of input)).text
+    pub left : (pieces_reply reading (as_server_state old (fates_of acts)) (pieces_of input)).left ≡ as_server_state new []
+    pub executed : (pieces_reply reading (as_server_state old (fates_of acts)) (pieces_of input)).commands ≡ executed_of acts
+    pub requested : AreRequested old (λ s. pieces_reply reading s (pieces_of input)) acts
+    pub requests_kept : IsPrefixOf (kept_of acts) (pieces_reply reading (as_server_state old (without_failures (fates_of acts))) (pieces_of input)).commands
+    pub state : new.state ≡ after old.state (pieces_reply reading (as_server_state old (fates_of acts)) (pieces_of input)).commands
 
-  -- Serving ended within the pieces. The last answer was written in part, not at all, or whole if no other may
-  -- follow it. The answers before it were flushed, with success reported. The session was then `reported`, with
-  -- steps and the last pieces still to be answered. It may have executed the operation that the last answer
-  -- reports. The next answer would be the one that the session, as it is now, gives to the rest of the steps
-  -- and the pieces. The part of the last answer was written when the calls of that operation had finished.
+  -- Serving was cut short by a fault. The answers before the last one were written and flushed, with success
+  -- reported, and led the session from `old` to `reported`. The steps `commands` of a command, if any, and the
+  -- pieces `following` were then still to be answered. The answer `last` reports at most one more act, which led
+  -- to `new`. When the calls of this act had finished, the answer was written in part, not at all, or whole if no
+  -- other may follow it. Next would come the answers to the steps `later_commands` and the pieces
+  -- `later_following`.
   pub record IsCutShort (reading : Reading) (old : SessionValue D) (pieces : List Piece) (before after_it : Stream) (new : SessionValue D) : Type 0 where
     pub commands : Option (List Command)
     pub front : List Piece
@@ -119,7 +119,7 @@ module _ {D : Type 0} (on : sectors.Ghosts D) where
     pub split : pieces ≡ front ++ following
     pub reported : SessionValue D
     pub text : List ℕ
-    pub answered : Leads old (λ s. served reading s pieces) text reported (still reading commands following)
+    pub answered : Leads old (λ s. pieces_reply reading s pieces) text reported (still reading commands following)
     -- The answer to each piece before the last pieces was flushed before the next piece was begun.
     pub lines : (some others : List Piece) (next : Piece) → front ≡ some ++ next ∷ others → AreAnswered reading old pieces (next ∷ (others ++ following)) answered.turns
     pub later_commands : Option (List Command)
@@ -139,13 +139,13 @@ module _ {D : Type 0} (on : sectors.Ghosts D) where
   EndsOrIsCut r reading old input before after_it new =
       MatchResult r (λ _. IsServed reading old input before after_it new) (λ _. IsCutShort reading old (pieces_of input) before after_it new)
 
-  -- Like `EndsOrIsCut`, for a writer of which only the bytes before and after are known.
+  -- Like `EndsOrIsCut`, for a writer of which only the bytes before and afterwards are known.
   abbrev pub EndsOrIsCutBetween : {T E : Type 0} → Result T E → Reading → SessionValue D → List ℕ → Option (List ℕ) → Option (List ℕ) → SessionValue D → Type 0
   EndsOrIsCutBetween r reading old input before after_it new =
       (events : List Event) × EndsOrIsCut r reading old input (record { contents = before; events = [] }) (record { contents = after_it; events = events }) new
 
--- The input of a source that was read: its bytes, if they were known beforehand, or the part that was not read
--- before of a text that the reads returned.
+-- The input that a source had left to read: its bytes, if they were known beforehand; otherwise, of a text that
+-- begins with the bytes that the reads returned, the part that was not read before.
 abbrev pub IsInputOf : {R : Type 0} → sources.Ghosts R → R → R → List ℕ → Type 0
 IsInputOf on old new input = (on.remaining old ≡ Some input) ⊎ ((text : List ℕ) × on.gave new text × (input ≡ on.left old text))
 
@@ -160,7 +160,7 @@ pub record AreEnded (bytes : List ℕ) : Type 0 where
   pub whole : ArePieces before
   pub line : List ℕ
   pub free : HasNoLineFeed line
-  pub ends : is_end (requested (strip_carriage_return line)) false ≡ true
+  pub ends : is_end (parsed_line (strip_carriage_return line)) false ≡ true
   pub split : bytes ≡ before ++ (line ++ 10 ∷ [])
 
 -- The part of an input that was taken: all of it, or the bytes up to a line that ends serving. It has fewer
@@ -172,8 +172,8 @@ pub record IsTaken (most : ℕ) (input : List ℕ) : Type 0 where
   pub less : length taken < most
   pub end : (rest ≡ []) ⊎ AreEnded taken
 
--- The cause of a fault. `ReadFault`: the reader failed or the input is too long. `WriteFault`: the writer
--- failed.
+-- The fault has its cause. `ReadFault`: the reader failed, or the input has 10^12 bytes or more. `WriteFault`:
+-- the writer failed.
 abbrev pub HasCause : ServeFault → Bool → Bool → ℕ → Type 0
 HasCause fault.ReadFault reader_failed writer_failed len = (reader_failed ≡ true) ⊎ (10 ^ 12 ≤ len)
 HasCause fault.WriteFault reader_failed writer_failed len = writer_failed ≡ true

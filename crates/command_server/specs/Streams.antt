@@ -14,15 +14,17 @@ abbrev pub put_in : Event → List ℕ
 put_in (Put calls text) = text
 put_in (Flushed calls) = []
 
+-- The text that these events wrote, in order.
 abbrev pub put_by : List Event → List ℕ
 put_by events = flat_map put_in events
 
--- The events at a sink, in order, and the results of the reads of a source with room, the newest first.
+-- The events at a sink, in order, and for each read into a block that is not empty the bytes that it returned,
+-- the newest first.
 pub record History : Type 0 where
   pub events : List Event
   pub reads : List (List ℕ)
 
--- The bytes that these reads returned, in order.
+-- The bytes that these reads returned, from the oldest read to the newest.
 abbrev pub text_given : List (List ℕ) → List ℕ
 text_given [] = []
 text_given (piece ∷ earlier) = text_given earlier ++ piece
@@ -44,16 +46,16 @@ pub record GaveText (reads : List (List ℕ)) (text : List ℕ) : Type 0 where
 abbrev pub rest_after : List (List ℕ) → List ℕ → List ℕ
 rest_after reads text = drop (length (text_given reads)) text
 
--- The knowledge about an input: its bytes, if they were known beforehand, and the results of the reads before
--- and after.
-pub record Given : Type 0 where
+-- The knowledge about an input between two moments: its bytes, if they were known beforehand, and the results of
+-- the reads up to the first moment and up to the second, the newest first.
+pub record InputRecord : Type 0 where
   pub known : Option (List ℕ)
   pub before : List (List ℕ)
   pub after : List (List ℕ)
 
--- The input: the bytes known beforehand or, of a text that the reads returned, the part that was not read
--- before.
-abbrev pub IsInput : Given → List ℕ → Type 0
+-- The bytes are the input: they were known beforehand; or, of a text that begins with the bytes that the reads
+-- returned, they are the part that was not read before.
+abbrev pub IsInput : InputRecord → List ℕ → Type 0
 IsInput given input = (given.known ≡ Some input) ⊎ ((text : List ℕ) × GaveText given.after text × (input ≡ rest_after given.before text))
 
 -- A sink: the bytes that it holds, if they are known, and its events in order.
@@ -76,12 +78,12 @@ pub record Extends (old new : Stream) (events : List Event) (text : List ℕ) : 
   pub written : Appends old.contents new.contents text
   pub noted : new.events ≡ old.events ++ events
 
--- A prefix of the text was written.
+-- A prefix of the text was written when this number of device calls had finished.
 pub record IsPart (old new : Stream) (calls : ℕ) (text : List ℕ) : Type 0 where
   pub len : ℕ
   pub put : Extends old new (Put calls (take len text) ∷ []) (take len text)
 
--- The text was written, or a prefix of it if a call failed.
+-- The text was written when this number of device calls had finished, or a prefix of it if a call failed.
 abbrev pub Puts : {T E : Type 0} → Stream → Stream → Result T E → ℕ → List ℕ → Type 0
 Puts old new (Ok done) calls text = Extends old new (Put calls text ∷ []) text
 Puts old new (Err fault) calls text = IsPart old new calls text
@@ -110,6 +112,8 @@ pub record IsPartlyPut (old new : Stream) (calls : ℕ) (text : List ℕ) : Type
   pub part : concat texts ≡ take len text
   pub extends : Extends old new (map (Put calls) texts) (take len text)
 
+-- The text was written and flushed; or, if a call failed, a prefix of it was written, and no flush reported
+-- success.
 abbrev pub WritesAndFlushes : {T E : Type 0} → Stream → Stream → Result T E → ℕ → List ℕ → Type 0
 WritesAndFlushes old new (Ok done) calls text = IsWrittenAndFlushed old new calls text
 WritesAndFlushes old new (Err fault) calls text = IsPartlyPut old new calls text

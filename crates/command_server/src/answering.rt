@@ -1,7 +1,7 @@
 //! The commands of an input, executed on a session: `serve_source`, and a function for each kind of command.
 ghost use Rattle.std.specs.Prelude.{◌≡◌, ◌<◌, ◌++◌, ◌^◌, [], IfErr, IfOk, OnErr, OnOk, MatchResult, ℕ, List, Result, Ok, Err, Some, true, false, length};
 ghost use Rattle.instance_read.specs.declared.formats.Format.{Format};
-ghost use Rattle.command_text.specs.Answering.{at_line, executed_all, commands_of, question_reply, instance_reply, steps_or_refusal, next_reply, plain, print_reply, refused, show_reply, steps_to_make, unless_broken};
+ghost use Rattle.command_text.specs.Answering.{at_line, operations_reply, commands_of, question_reply, instance_reply, steps_or_refusal, next_reply, plain, print_reply, refusal_reply, show_reply, steps_to_make, unless_broken};
 ghost use Rattle.command_text.specs.Laws.{cut_at};
 ghost use Rattle.command_text.specs.Readings.{IsReading, Reading};
 ghost use Rattle.command_text.specs.Answers.{answer_text, line};
@@ -14,7 +14,7 @@ ghost use Rattle.command_server.specs.ServeSteps.{Answers, ContinuesOrIsCut, Has
 ghost use Rattle.command_server.specs.CrashRecovery.{RunsLeave};
 ghost use Rattle.command_server.specs.declared.answering.ServeFault.TheVariants.{WriteFault};
 
-use crate::hints::{Hint, log_hint, log_unseated};
+use crate::hints::{Hint, log_hint, log_unassigned};
 use crate::input::{AnnouncedText, Input, InputFault};
 use crate::streams::{IoFault, Sink, Source};
 use command_core::{Command, Job, Refusal, State};
@@ -30,14 +30,13 @@ use recover::{Denial, Reply, Session, runs_compose};
 use sector_disk::Sectors;
 use sol_text::WriteSolFault;
 use std::alloc::Global;
-use thiserror::Error;
 
-/// The reason why serving ended before the input did.
-#[derive(Clone, Copy, Debug, PartialEq, Eq, Error)]
+/// The reason why serving ended before the input was answered.
+#[derive(Clone, Copy, Debug, PartialEq, Eq)]
 pub enum ServeFault {
-    #[error("the input can't be read, or is too long")]
+    /// The input can't be read, or is too long.
     ReadFault,
-    #[error("an answer can't be written")]
+    /// An answer can't be written.
     WriteFault,
 }
 
@@ -63,7 +62,7 @@ impl From<IoFault> for ServeFault {
     }
 }
 
-/// Whether serving continues.
+/// The decision whether serving continues after a command.
 #[derive(Clone, Copy)]
 enum Flow {
     Continue,
@@ -74,11 +73,11 @@ enum Flow {
 /// or `adopt` command that is malformed, out of range, or not followed by all its bytes, since the next command
 /// could not be found. Reading lines takes no memory.
 ///
-/// `ok` and `at` are written after the last sync of what they acknowledge. Each attempt to use fewer vehicles
-/// is logged when it ends. If the whole input is served, the output is the answer to it, and the session has
-/// executed exactly the operations that the answer reports, up to a failed device. If the bytes of the reader
-/// are known beforehand, they are the input. Otherwise every text that begins with the bytes that the reads
-/// returned counts as the input (`IsInputOf`). `serve` takes any reader and writer.
+/// `ok` and `at` are written after the last sync of what they acknowledge. Each attempt to use fewer vehicles is
+/// logged when it ends. If the whole input is served, the output is the answer to it, and the session has
+/// executed exactly the operations that the answer reports as executed. If the bytes of the reader are known
+/// beforehand, they are the input. Otherwise every text that begins with the bytes that the reads returned counts
+/// as the input (`IsInputOf`). `serve` takes any reader and writer.
 ///
 /// # Errors
 ///
@@ -249,7 +248,7 @@ fn put_line<D: Sectors, W: Sink>(
     flush_unlogged(session, writer)
 }
 
-// Flushes everything written. The flush is not recorded.
+// Flushes everything written. Contracts see it as writing the empty text and flushing.
 #[tactic(auto, using(crate::proofs::StreamLemmas::hands_nothing))]
 fn flush_unlogged<D: Sectors, W: Sink>(session: &Session<D>, writer: &mut W) -> Result<(), IoFault>
     ensures reported { WritesAndFlushes (W.stream writer.old) (W.stream writer.new) result
@@ -321,7 +320,7 @@ fn write_line_and_ok<D: Sectors, W: Sink>(
     write_text_and_ok(session, writer, b"\n")
 }
 
-// Executes the operation and logs a hint for people beside its answer.
+// Executes the operation. If there is something to explain about its answer, logs a hint for people.
 fn applied_with_hint<L: Log, D: Sectors>(
     rt: &L,
     alloc: Global,
@@ -379,7 +378,7 @@ fn answer_to_denial(denial: Denial) -> Answer
 
 // Returns the answer to a command with a number that its field can't hold.
 fn refused<D: Sectors>(session: &Session<D>, refusal: Refusal) -> Answer
-    ensures { Reports D.Sectors session.now (λ s. unless_broken s (refused s s.state refusal))
+    ensures { Reports D.Sectors session.now (λ s. unless_broken s (refusal_reply s s.state refusal))
         (line (answer_text result)) session.now silent }
 {
     if session.is_broken() {
@@ -489,7 +488,7 @@ fn bytes_answer<L: Log, D: Sectors>(
     }
 }
 
-// Reads the instance and starts over with it.
+// Reads the instance and loads it, which replaces the session's instance and plan.
 fn loaded<L: Log, D: Sectors>(
     rt: &L,
     alloc: Global,
@@ -529,7 +528,7 @@ fn adopted<L: Log, D: Sectors>(
     match read_plan(alloc, job, text) {
         Ok(plan) => applied(rt, alloc, session, Command::Adopt(plan)),
         Err(why) => {
-            log_unseated(rt, why);
+            log_unassigned(rt, why);
             Answer::AssignmentFault(why)
         }
     }
@@ -553,7 +552,7 @@ fn serve_steps<L: Log, D: Sectors, W: Sink>(
     }
     match steps_to_make(session.state(), goal) {
         Ok(steps) => make_steps(rt, alloc, session, writer, steps),
-        Err(refusal) => write_answer(session, writer, Answer::Refused(refusal)),
+        Err(answer) => write_answer(session, writer, answer),
     }
 }
 
@@ -566,7 +565,7 @@ fn make_steps<L: Log, D: Sectors, W: Sink>(
     steps: StepCursor,
 ) -> Result<(), IoFault>
     ensures answers { Answers D.Sectors result session.old
-        (λ s. executed_all s (commands_of steps session.old.state))
+        (λ s. operations_reply s (commands_of steps session.old.state))
         (W.stream writer.old) (W.stream writer.new) session.new silent }
     ensures failed { OnErr result (W.has_failed writer.new ≡ true) }
     ensures origin { W.origin writer.new ≡ W.origin writer.old }
@@ -583,7 +582,7 @@ fn make_steps<L: Log, D: Sectors, W: Sink>(
     write_answer(session, writer, Answer::Ok)
 }
 
-// Writes the line after an operation of a command that takes several.
+// Writes the progress line after an operation of a command that consists of several operations.
 fn write_progress<D: Sectors, W: Sink>(
     session: &Session<D>,
     writer: &mut W,
@@ -603,16 +602,16 @@ fn write_progress<D: Sectors, W: Sink>(
     }
 }
 
-// Writes the steps so far.
+// Writes the line `at ..` with the number of steps so far and the cost.
 fn write_at_line<D: Sectors, W: Sink>(session: &Session<D>, writer: &mut W) -> Result<(), IoFault>
     ensures reported { WritesAndFlushes (W.stream writer.old) (W.stream writer.new) result
         (D.calls session.now.device) (at_line session.now.state) }
     ensures failed { OnErr result (W.has_failed writer.new ≡ true) }
     ensures origin { W.origin writer.new ≡ W.origin writer.old }
 {
-    match session.state() {
-        State::Loaded(job) => put_line(session, writer, at_line(job).as_bytes()),
-        State::Empty => flush_unlogged(session, writer),
+    match session.incumbent() {
+        Some((job, cost)) => put_line(session, writer, at_line(job, cost).as_bytes()),
+        None => flush_unlogged(session, writer),
     }
 }
 
@@ -635,7 +634,7 @@ fn instance_reply<D: Sectors>(alloc: Global, session: &Session<D>) -> Result<Tex
     let job = job_of(session)?;
     match print_instance(alloc, job) {
         Ok(text) => Ok(text),
-        Err(instance_text::WriteFault::NoFormat) => Err(Answer::Refused(Refusal::NoFormat)),
+        Err(instance_text::WriteFault::NoFormat) => Err(Answer::NoFormat),
         Err(instance_text::WriteFault::OutOfMemory) => {
             Err(Answer::Refused(Refusal::OutOfMemory))
         }

@@ -38,7 +38,7 @@ impl Events {
         Events::of()
     }
 
-    /// Returns a copy.
+    /// Returns a record of the same events and reads.
     pub(crate) fn copy(&self) -> Events
         ensures events { result.events ≡ self.now.events }
         ensures reads { result.reads ≡ self.now.reads }

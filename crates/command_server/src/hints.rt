@@ -56,7 +56,7 @@ pub(crate) fn log_hint<L: Log, D: Sectors>(
 }
 
 /// Logs the vehicle whose pin no route of the solution begins with.
-pub(crate) fn log_unseated<L: Log>(rt: &L, why: AssignmentFault) {
+pub(crate) fn log_unassigned<L: Log>(rt: &L, why: AssignmentFault) {
     if let AssignmentFault::PinWithoutRoute(vehicle) = why {
         info!(rt; "adopt: no remaining route begins with the pin of vehicle {vehicle}");
     }

@@ -4,7 +4,7 @@
 //! not depend on the pieces.
 ghost use Rattle.std.specs.Prelude.{◌≡◌, ◌≤◌, ◌<◌, ◌+◌, ◌-◌, ◌++◌, IfOk, MatchResult, OnErr, OnOk, OnSome, ℕ, List, [], length};
 ghost use Rattle.std.specs.Str.Lines.{strip_carriage_return};
-ghost use Rattle.command_text.specs.Parsing.{requested};
+ghost use Rattle.command_text.specs.Parsing.{parsed_line};
 ghost use Rattle.command_server.specs.Input.{Between, Counts, CountsExactly, CutsNext, IsFirstLineLen, IsLast, IsPartialLine, IsPartialText, IsInputFault, TakesAll, TakesLess, TakesMore, TakesPart, TakesBuffered, TakesText};
 
 use crate::read_buffer::ReadBuffer;
@@ -14,11 +14,11 @@ use command_text::{FirstWord, ParsedCommand, read_line};
 use memchr::memchr;
 use std::alloc::Global;
 
-/// The maximum number of bytes that are taken of an input.
+/// The number of bytes that makes an input too long.
 const MAX_INPUT_LEN: u64 = 1_000_000_000_000;
 
-/// The number of bytes kept of a line: the longest line with its carriage return, and one more byte, which
-/// shows that a line is longer.
+/// The number of bytes kept of a line: the longest line with its carriage return, and one more byte, which shows
+/// that a line is too long.
 const KEPT_LEN: usize = 1026;
 
 /// The part of a line that was read so far, without its line feed.
@@ -59,7 +59,7 @@ impl PartialLine {
     // Parses the line, once it has ended.
     fn requested(&self) -> ParsedCommand
         ensures { (line : List ℕ) → IsPartialLine line self.now
-            → result ≡ requested (strip_carriage_return line) }
+            → result ≡ parsed_line (strip_carriage_return line) }
     {
         if self.kept.len() < KEPT_LEN {
             return read_line(without_return(self.kept.as_slice()));
@@ -248,7 +248,8 @@ impl Input {
         }
     }
 
-    // Takes and counts the bytes of the line that were read.
+    // Takes and counts the bytes of the line that are read ahead, up to its line feed. Reads once if none are read
+    // ahead.
     fn take_line<R: Source>(&mut self, reader: &mut R) -> Result<Part, InputFault>
         ensures part { IfOk result (λ part. Between R.Source self.old reader.old self.new reader.new
             (λ old new. TakesPart old new self.old.line self.new.line part)) }
@@ -266,7 +267,7 @@ impl Input {
         Ok(part)
     }
 
-    /// Reads the next `len` bytes.
+    /// Reads the announced text, which has the next `len` bytes.
     pub(crate) fn announced_text<R: Source>(
         &mut self,
         reader: &mut R,
@@ -293,7 +294,8 @@ impl Input {
         }
     }
 
-    // Takes and counts the bytes of the text that were read, and returns whether there were any.
+    // Takes and counts the bytes of the text that are read ahead, and returns whether there were any. Reads once if
+    // none are read ahead.
     fn take_more<R: Source>(
         &mut self,
         reader: &mut R,

@@ -38,14 +38,14 @@ impl ReadBuffer {
         }
     }
 
-    /// Returns the bytes in order.
+    /// Returns the bytes that were read and not yet taken, in order.
     pub(crate) fn as_slice(&self) -> &[u8]
         ensures { result.now ≡ self.now }
     {
         &self.block[self.start..self.end]
     }
 
-    /// Reads once if the buffer is empty. It is empty afterwards only at the end of the input.
+    /// Reads once if the buffer is empty. After `Ok` it is empty only at the end of the input.
     pub(crate) fn fill<R: Source>(&mut self, reader: &mut R) -> Result<(), IoFault>
         ensures bytes { (how : InputKnowledge) → Fits R.Source how reader.new
             → Keeps (prepend_known self.old (left_by R.Source how reader.old))

@@ -14,7 +14,8 @@ use crate::events::Events;
 use recover::Session;
 use sector_disk::Sectors;
 use std::io;
-use std::io::{ErrorKind, Read, Write};
+use std::io::{Read, Write};
+use system_calls::retry;
 
 /// The failure of a reader's or a writer's call.
 #[derive(Clone, Copy, Debug, PartialEq, Eq)]
@@ -25,8 +26,8 @@ pub trait Source {
     // The bytes still to come, if they are known.
     ghost remaining: { Self → Option (List ℕ) };
 
-    // Whether a text is possible as the input: it begins with all bytes that the calls returned, and has no
-    // others if a call has returned nothing.
+    // Whether this text may be the input: it begins with all bytes that the calls returned, and has no others if
+    // a call has returned nothing.
     ghost gave: { Self → List ℕ → Type 0 };
 
     // The part of such a text that was not returned yet.
@@ -58,7 +59,7 @@ pub trait Sink {
     // The properties that no call changes.
     ghost origin: { Self → Origin };
 
-    /// Writes a text. If a call fails, a prefix of it is written.
+    /// Writes a text. If a call fails, a prefix of the text is written.
     fn put<D: Sectors>(&mut self, session: &Session<D>, text: &[u8]) -> Result<(), IoFault>
         ensures puts { Puts (stream self.old) (stream self.new) result
             (D.calls session.now.device) text.now }
@@ -191,9 +192,9 @@ impl<W: Write> FailureTracking<W> {
     }
 }
 
-/// Repeats a call that a signal interrupts, and records the result of each read with room. After a read that
-/// returned nothing, no more calls are made, since a terminal may return bytes after its end. So the bytes that
-/// the reads returned are the input, whatever the reader is.
+/// Repeats a call that a signal interrupts, and records the bytes of each read into a block that is not empty.
+/// After a read that returned nothing, no more calls are made, since a terminal may return bytes after its end.
+/// So the bytes that the reads returned are the input, whatever the reader is.
 impl<R: Read> Source for FailureTracking<R> {
     ghost use Rattle.command_server.specs.TrackedStream.{still_known};
 
@@ -331,14 +332,12 @@ impl Source for &[u8] {
 fn read_once<R: Read>(reader: &mut R, block: &mut [u8]) -> Option<usize>
     ensures { ReadsSome (R.remaining reader.old) (R.remaining reader.new) result block.new }
 {
-    for _ in 0..u64::MAX {
-        match reader.read(block) {
-            Ok(len) => return Some(len),
-            Err(error) if error.kind() == ErrorKind::Interrupted => {}
-            Err(_) => return None,
-        }
+    let mut call = || reader.read(block);
+    match retry(&mut call) {
+        Some(Ok(len)) => Some(len),
+        Some(Err(_)) => None,
+        None => None,
     }
-    None
 }
 
 /// Writes a text, or returns how many of its bytes were written before a call failed. A call that a signal
@@ -356,17 +355,15 @@ pub fn write_text<W: Write>(writer: &mut W, text: &[u8]) -> Result<(), usize>
     Ok(())
 }
 
-// Writes some bytes of a text that is not empty. Returns `None` if the writer fails.
+// Writes some bytes of a text that is not empty, and returns their number, or `None` if the writer fails.
 fn write_once<W: Write>(writer: &mut W, text: &[u8]) -> Option<usize>
     ensures { WritesSome (W.contents writer.old) (W.contents writer.new) result text.now }
 {
-    for _ in 0..u64::MAX {
-        match writer.write(text) {
-            Ok(0) => return None,
-            Ok(len) => return Some(len),
-            Err(error) if error.kind() == ErrorKind::Interrupted => {}
-            Err(_) => return None,
-        }
+    let mut call = || writer.write(text);
+    match retry(&mut call) {
+        Some(Ok(0)) => None,
+        Some(Ok(len)) => Some(len),
+        Some(Err(_)) => None,
+        None => None,
     }
-    None
 }

@@ -1,4 +1,4 @@
-//! A writer that ends serving after a refusal.
+//! A writer that ends serving after an answer that reports a refusal or a failed device.
 ghost use Rattle.std.specs.Prelude.{◌≡◌, ◌++◌, bytes_eq, ◌∷◌, ◌||◌, ℕ, List, Option, [], false, true, None, Some, OnErr, OnOk};
 ghost use Rattle.command_server.specs.Streams.{Flushes, Puts, began_with};
 ghost use Rattle.command_server.specs.Strict.{Follows, HasNoLine, IsLastLine, IsLastLineAfter, ReportsLast, is_failed_answer, failed_answer_of};
@@ -15,7 +15,7 @@ use std::marker::Model;
 /// The number of bytes kept of a line: one more than `fault device` has.
 const KEPT_LEN: usize = 13;
 
-/// The failure that the last written line reports.
+/// The failure that an answer reports in its last line.
 #[derive(Clone, Copy, Debug, PartialEq, Eq)]
 pub enum FailedAnswer {
     /// The line begins with `no `: a refusal.
@@ -144,8 +144,8 @@ impl<W: Write> StrictWriter<W> {
         }
     }
 
-    /// Returns the failure that the last complete line since the wrapping reports, unless the writer has
-    /// failed.
+    /// Returns the failure that the last complete line since the wrapping reports, if any. If the writer has
+    /// failed, the lines of the failed write do not count.
     pub fn failed_answer(&self) -> Option<FailedAnswer>
         ensures reported { result ≡ self.now.reported }
         ensures last { self.now.writer.has_failed ≡ false
@@ -170,15 +170,15 @@ impl<W: Write> StrictWriter<W> {
     }
 }
 
-/// Proves that the last whole line of a text ends with its last line feed and begins after the line feed before
-/// it.
+/// Proves that the last complete line of a text ends with its last line feed and begins after the line feed
+/// before it.
 pub fn last_lines_are_ended()
     ensures first { IsLastLine }
     ensures following { IsLastLineAfter }
     ensures none { HasNoLine }
 {}
 
-/// The sink has failed if the writer has, or if the last line reports a failure.
+/// Counts as failed if the writer has failed, or if the last complete line reports a failure.
 impl<W: Write> Sink for StrictWriter<W> {
     ghost use Rattle.command_server.specs.TrackedStream.{held};
 

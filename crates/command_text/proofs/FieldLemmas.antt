@@ -1,4 +1,4 @@
--- Taking the numbers of a line one by one.
+-- Lemmas about taking the numbers of a line one by one.
 use Rattle.std.proofs.Common.{◌≡◌, inl, inr, ℕ, ◌<◌, ◌≤◌, List, [], ◌∷◌, ◌++◌, length, slice_index_or, Option, Some, None, refl, sym, ◌∙◌, ap, arith, length-append}
 use Rattle.std.proofs.lemmas.List.{append_assoc, append-nil}
 use Rattle.std.specs.Option.{option_and_then, option_map, option_map_or}
@@ -10,7 +10,7 @@ use Rattle.command_text.specs.declared.parsed_command.ParsedCommand.TheVariants.
 use Rattle.command_text.specs.declared.fields.Field.{Field}
 use Rattle.command_text.specs.declared.verbs.Verb.{Verb}
 
--- the numbers of the words are these, followed by those of the words that are left
+-- the numbers of `words` are `xs`, followed by the numbers of `left`
 abbrev pub TakesOn : List (List ℕ) → List Field → List (List ℕ) → Type 0
 TakesOn words xs left = fields_of words ≡ option_map (λ fs. xs ++ fs) (fields_of left)
 
@@ -83,7 +83,7 @@ too_long v (a0 ∷ a1 ∷ a2 ∷ a3 ∷ a4 ∷ a5 ∷ a6 ∷ a7 ∷ a8 ∷ a9 �
 too_long v (a0 ∷ a1 ∷ a2 ∷ a3 ∷ a4 ∷ a5 ∷ a6 ∷ a7 ∷ a8 ∷ a9 ∷ a10 ∷ []) least = absurd (omega (arith, least))
 too_long v (a0 ∷ a1 ∷ a2 ∷ a3 ∷ a4 ∷ a5 ∷ a6 ∷ a7 ∷ a8 ∷ a9 ∷ a10 ∷ a11 ∷ more) least = refl
 
--- a line of eleven numbers is parsed with the two spots that the code assembles
+-- if the code parses two spots from eleven numbers, the result is that of the definition
 pub eleven_read : (v : Verb) (fs : List Field) (d : Field) (a b : Option Spot) (read : ParsedCommand) → 11 ≤ length fs → length fs < 12
     → a ≡ spot_of (slice_index_or fs 1 d) (slice_index_or fs 2 d) (slice_index_or fs 3 d) (slice_index_or fs 4 d) (slice_index_or fs 5 d)
     → b ≡ spot_of (slice_index_or fs 6 d) (slice_index_or fs 7 d) (slice_index_or fs 8 d) (slice_index_or fs 9 d) (slice_index_or fs 10 d)

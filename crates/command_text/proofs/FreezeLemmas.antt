@@ -1,4 +1,5 @@
--- Lemmas about the longest prefix of a route whose places pass a test.
+-- Lemmas about `freeze`: prefixes and first numbers that pass a test, the number of stops of a route, and the
+-- pins of the remaining vehicles.
 use Rattle.std.proofs.Common.{◌≡◌, ◌∙◌, ℕ, suc, ◌+◌, ◌-◌, ◌<◌, ◌≤◌, Bool, true, false, cond, List, [], ◌∷◌, length, Option, Some, None, sym, refl, ap, arith, eqb}
 use Rattle.std.specs.Prelude.{◌||◌}
 use Rattle.std.specs.List.{AllByRecursion, find, list_any, prefix_len, range_with_len}
@@ -14,29 +15,29 @@ use Rattle.command_types.specs.Job.{JobValue}
 use Rattle.command_types.specs.declared.commands.Command.TheVariants.{Pin}
 use Rattle.command_text.specs.Freezing.{freeze_commands, new_pin_len, freeze_vehicles, pinned_before}
 
--- the length of the longest prefix of k..n whose numbers all pass
-abbrev pub front : (ℕ → Bool) → ℕ → ℕ → ℕ
-front test k n = prefix_len test (range_with_len k (n - k))
+-- the number of consecutive numbers, from k on and below n, that pass the test
+abbrev pub prefix_from : (ℕ → Bool) → ℕ → ℕ → ℕ
+prefix_from test k n = prefix_len test (range_with_len k (n - k))
 
-pub front_step : (test : ℕ → Bool) (k n : ℕ) → k < n → front test k n ≡ cond (test k) (1 + front test (k + 1) n) 0
-front_step test k n below =
+pub prefix_step : (test : ℕ → Bool) (k n : ℕ) → k < n → prefix_from test k n ≡ cond (test k) (1 + prefix_from test (k + 1) n) 0
+prefix_step test k n below =
     let left : n - k ≡ suc (n - (k + 1)) = omega (arith, below) in
     ap (λ m. prefix_len test (range_with_len k m)) left
 
-pub front_goes : (test : ℕ → Bool) (k n : ℕ) → k < n → test k ≡ true → front test k n ≡ 1 + front test (k + 1) n
-front_goes test k n below is = front_step test k n below ∙ ap (λ b. cond b (1 + front test (k + 1) n) 0) is
+pub prefix_continues : (test : ℕ → Bool) (k n : ℕ) → k < n → test k ≡ true → prefix_from test k n ≡ 1 + prefix_from test (k + 1) n
+prefix_continues test k n below is = prefix_step test k n below ∙ ap (λ b. cond b (1 + prefix_from test (k + 1) n) 0) is
 
-pub front_ends : (test : ℕ → Bool) (k n : ℕ) → k < n → test k ≡ false → front test k n ≡ 0
-front_ends test k n below is = front_step test k n below ∙ ap (λ b. cond b (1 + front test (k + 1) n) 0) is
+pub prefix_ends : (test : ℕ → Bool) (k n : ℕ) → k < n → test k ≡ false → prefix_from test k n ≡ 0
+prefix_ends test k n below is = prefix_step test k n below ∙ ap (λ b. cond b (1 + prefix_from test (k + 1) n) 0) is
 
-pub front_none : (test : ℕ → Bool) (k n : ℕ) → n ≤ k → front test k n ≡ 0
-front_none test k n past = let left : n - k ≡ 0 = omega (arith, past) in ap (λ m. prefix_len test (range_with_len k m)) left
+pub prefix_none : (test : ℕ → Bool) (k n : ℕ) → n ≤ k → prefix_from test k n ≡ 0
+prefix_none test k n past = let left : n - k ≡ 0 = omega (arith, past) in ap (λ m. prefix_len test (range_with_len k m)) left
 
 -- a route has a visit for each of its places
 pub no_visit : {X : Type 0} (p : Instance) (route : List ℕ) (k : ℕ) → k ≤ length route → visits_from p route k ≡ [] → X
 no_visit p route k le none = absurd (let h : visit_after p route k ∷ visits_from p route (k + 1) ≡ [] = sym (visits_from-cons p route k le) ∙ none in cc)
 
--- ---- the first number of k..n that passes
+-- ---- the first of the numbers k..n-1 that passes the test
 abbrev pub first_from : (ℕ → Bool) → ℕ → ℕ → Option ℕ
 first_from test k n = find test (range_with_len k (n - k))
 
@@ -54,7 +55,7 @@ first_later test k n below is = first_step test k n below ∙ ap (λ b. cond b (
 pub first_none : (test : ℕ → Bool) (k n : ℕ) → n ≤ k → first_from test k n ≡ None
 first_none test k n past = let left : n - k ≡ 0 = omega (arith, past) in ap (λ m. find test (range_with_len k m)) left
 
--- ---- a route has no more stops than there are numbers
+-- ---- a route has no more stops than there are stop numbers
 in_or : (q n : ℕ) (b rest : Bool) (P : Type 0) → eqb q n ≡ b → (b || rest) ≡ true → (q ≡ n → P) → (rest ≡ true → P) → P
 in_or q n true rest P is e f g = f (eqb-true q n is)
 in_or q n false rest P is e f g = g e
@@ -67,7 +68,7 @@ pub few_stops : (p : Instance) (route : List ℕ) → IsInstance p → AreDistin
 few_stops p route is once =
     length-le_from_distinct_below route 40001 once.distinct (λ q e. below_all route 40000 q (live_numbers p route is once) e)
 
--- ---- the pins of the vehicles that are left
+-- ---- the pins of the remaining vehicles
 module _ (t : ℕ) (j : JobValue) (v : ℕ) where
   abbrev vehicles : ℕ
   vehicles = j.problem.fleet + 1

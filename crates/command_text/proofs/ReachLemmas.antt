@@ -1,4 +1,5 @@
--- `reach N`, cut off by any fate of an attempt and repeated, ends in the same state as an uninterrupted one.
+-- If `reach N` is cut off, whatever the fates of its attempts are, and then repeated, it ends in the same state
+-- as without the interruption.
 use Rattle.std.proofs.Common.{◌≡◌, ◌∙◌, inl, inr, ℕ, zero, suc, ◌+◌, ◌-◌, ◌^◌, ◌<◌, ◌≤◌, Bool, true, false, None, if◌then◌else◌, List, [], ◌∷◌, map, Ok, Err, refl, sym, ap, subst, arith}
 use Rattle.std.specs.Prelude.{nat_le, sum_by, take}
 use Rattle.std.specs.List.{list_all}
@@ -15,20 +16,21 @@ use Rattle.command_core.specs.Runs.{AreAccepted}
 use Rattle.command_types.specs.declared.commands.Command.{Command}
 use Rattle.command_types.specs.declared.commands.Command.TheVariants.{Search}
 use Rattle.command_types.specs.declared.refusals.Refusal.TheVariants.{Range}
+use Rattle.command_text.specs.declared.answers.Answer.TheVariants as answer
 use Rattle.command_types.specs.declared.states.State.{State}
 use Rattle.command_types.specs.declared.states.State.TheVariants.{Empty, Loaded}
-use Rattle.command_text.specs.Answering.{Fate, ServerState, unbroken_session, executed_all, counts_of, steps_or_refusal, steps_to_make}
+use Rattle.command_text.specs.Answering.{Fate, ServerState, unbroken_session, operations_reply, counts_of, steps_or_refusal, steps_to_make}
 use Rattle.command_text.specs.Laws.{ReachedLinesMayBeCut}
 use Rattle.command_text.specs.declared.steps.StepRequest.TheVariants as goal
 use Rattle.command_text.specs.declared.steps.StepCursor.TheVariants as makes
 use Rattle.command_text.proofs.RepeatLemmas.{all_cut, all_whole}
 use Rattle.command_text.proofs.StepLemmas.{large_count, no_counts, small_count}
 
--- the operations of n search steps
+-- the operations that make n search steps
 abbrev searches : ℕ → List Command
 searches n = map Search (counts_of 256 n)
 
--- the operations are accepted, are searches, and make n steps
+-- the operations are searches that make n steps, and are accepted if they end at step 2^60 or before it
 record AreSearches (j : JobValue) (n : ℕ) (cs : List Command) : Type 0 where
   pub accepted : (0 < n → j.steps + n ≤ 2 ^ 60) → AreAccepted (Loaded j) cs
   pub searching : list_all is_searching cs ≡ true
@@ -73,17 +75,17 @@ all_searches (suc fuel) (suc n) within j = elim (leb_tells 256 (suc n)) [
       (subst (λ (k : ℕ). AreSearches j k (Search (suc n) ∷ searches (suc n - suc n))) sum whole))
 ]
 
--- a prefix of search operations makes no more steps than all of them
-record IsFront (cs front : List Command) : Type 0 where
-  pub searching : list_all is_searching front ≡ true
-  pub sum : sum_by steps_of front ≤ sum_by steps_of cs
+-- the prefix `prefix` consists of searches, and makes no more steps than all operations
+record IsSearchPrefix (cs prefix : List Command) : Type 0 where
+  pub searching : list_all is_searching prefix ≡ true
+  pub sum : sum_by steps_of prefix ≤ sum_by steps_of cs
 
-fronts : (count : ℕ) (cs : List Command) → list_all is_searching cs ≡ true → IsFront cs (take count cs)
-fronts zero cs all = record { searching = refl; sum = omega arith }
-fronts (suc count) [] all = record { searching = refl; sum = omega arith }
-fronts (suc count) (c ∷ cs) all =
+search_prefixes : (count : ℕ) (cs : List Command) → list_all is_searching cs ≡ true → IsSearchPrefix cs (take count cs)
+search_prefixes zero cs all = record { searching = refl; sum = omega arith }
+search_prefixes (suc count) [] all = record { searching = refl; sum = omega arith }
+search_prefixes (suc count) (c ∷ cs) all =
     let both = and_parts (is_searching c) (list_all is_searching cs) all in
-    let rest = fronts count cs both.1 in
+    let rest = search_prefixes count cs both.1 in
     let more = rest.sum in
     let one = sum_by-cons steps_of c cs in
     let other = sum_by-cons steps_of c (take count cs) in
@@ -97,10 +99,10 @@ module _ (one : RunsAreOneSearch) (add_up : SearchesAddUp) (n : ℕ) (room : n �
   is_requested j = nat_le n (j.steps + MAX_REQUESTED_STEPS)
 
   not_begun : (j : JobValue) (fates : List Fate) → is_requested j ≡ false → left_by (unbroken_session (Loaded j) fates) ≡ Loaded j
-  not_begun j fates e = ap (λ b. (steps_or_refusal (unbroken_session (Loaded j) fates) (if b then Ok (makes.Search (n - j.steps)) else Err Range)).left.state) e
+  not_begun j fates e = ap (λ b. (steps_or_refusal (unbroken_session (Loaded j) fates) (if b then Ok (makes.Search (n - j.steps)) else Err (answer.Refused Range))).left.state) e
 
-  is_begun : (j : JobValue) (fates : List Fate) → is_requested j ≡ true → left_by (unbroken_session (Loaded j) fates) ≡ (executed_all (unbroken_session (Loaded j) fates) (searches (n - j.steps))).left.state
-  is_begun j fates e = ap (λ b. (steps_or_refusal (unbroken_session (Loaded j) fates) (if b then Ok (makes.Search (n - j.steps)) else Err Range)).left.state) e
+  is_begun : (j : JobValue) (fates : List Fate) → is_requested j ≡ true → left_by (unbroken_session (Loaded j) fates) ≡ (operations_reply (unbroken_session (Loaded j) fates) (searches (n - j.steps))).left.state
+  is_begun j fates e = ap (λ b. (steps_or_refusal (unbroken_session (Loaded j) fates) (if b then Ok (makes.Search (n - j.steps)) else Err (answer.Refused Range))).left.state) e
 
   all_of : (j : JobValue) → AreSearches j (n - j.steps) (searches (n - j.steps))
   all_of j = all_searches (n - j.steps) (n - j.steps) (omega arith) j
@@ -116,10 +118,10 @@ module _ (one : RunsAreOneSearch) (add_up : SearchesAddUp) (n : ℕ) (room : n �
       let all = all_of j in
       let cs = searches (n - j.steps) in
       let cut = all_cut (unbroken_session (Loaded j) fates) cs in
-      let front = fronts cut.count cs all.searching in
+      let prefix = search_prefixes cut.count cs all.searching in
       let made = sum_by steps_of (take cut.count cs) in
-      let few : made ≤ n - j.steps = subst (λ (k : ℕ). made ≤ k) all.sum front.sum in
-      let left : left_by (unbroken_session (Loaded j) fates) ≡ Loaded (searched j made) = is_begun j fates e ∙ cut.is ∙ one j (take cut.count cs) front.searching in
+      let few : made ≤ n - j.steps = subst (λ (k : ℕ). made ≤ k) all.sum prefix.sum in
+      let left : left_by (unbroken_session (Loaded j) fates) ≡ Loaded (searched j made) = is_begun j fates e ∙ cut.is ∙ one j (take cut.count cs) prefix.searching in
       let requested = leb-true n (j.steps + MAX_REQUESTED_STEPS) e in
       let still : is_requested (searched j made) ≡ true = le-leb n (j.steps + made + MAX_REQUESTED_STEPS) (omega (arith, requested)) in
       let sum : made + (n - (j.steps + made)) ≡ n - j.steps = omega (arith, few) in

@@ -1,4 +1,5 @@
--- A text has at most one problem, none if it has a fault, and one first fault.
+-- The text of an instance spells at most one problem, and none if it has a fault. It has at most one first
+-- fault.
 use Rattle.std.proofs.Common.{◌≡◌, ◌∙◌, inl, inr, ℕ, List, Result, Ok, Err, sym, ap, refl, arith, IfOk, IfErr, ◌==◌, if◌then◌else◌}
 use Rattle.plan_types.specs.Instance.{Instance}
 use Rattle.instance_read.specs.Faults.{Class, IsFirstFault, IsNoLater, IsNoLaterPlace, ReportsFirstFault, rank}
@@ -78,12 +79,12 @@ both_first OfText OfText f g a b = same_place f g a b
 fault_once : (Fault : Class → ℕ → ReadFaultKind → Type 0) (f g : ReadFault) → IsFirstFault Fault f → IsFirstFault Fault g → f ≡ g
 fault_once Fault f g a b = both_first a.0 b.0 f g (a.2 b.0 g.line g.kind b.1) (b.2 a.0 f.line f.kind a.1)
 
--- a reader returns the contents of the text
+-- a reader that meets its contract returns what the text contains, unless memory ran out
 pub read_once : (format : Format) (text : List ℕ) (result found : Result Instance ReadFault) → IfOk result (SpellsInstance format text)
     → IfErr result (ReportsFirstFault (InstanceFault format text)) → IsReadResult format text found
     → IsUnlessOutOfMemory result found
-read_once format text (Ok p) (Ok q) spells tells is = inl (ap Ok (problem_once format text p q spells is))
-read_once format text (Ok p) (Err g) spells tells is = absurd (no_fault format text p spells is.0 g.line g.kind is.1)
+read_once format text (Ok p) (Ok q) spells reports is = inl (ap Ok (problem_once format text p q spells is))
+read_once format text (Ok p) (Err g) spells reports is = absurd (no_fault format text p spells is.0 g.line g.kind is.1)
 read_once format text (Err f) found spells (inl none) is = inr (ap Err none)
 read_once format text (Err f) (Ok q) spells (inr first) is = absurd (no_fault format text q is first.0 f.line f.kind first.1)
 read_once format text (Err f) (Err g) spells (inr first) is = inl (ap Err (fault_once (InstanceFault format text) f g first is))

@@ -26,9 +26,9 @@ module _ (law : TextsHaveAReading) where
   some_instances = ((λ format text. read_as format text (law format text)), (λ format text. is_found format text (law format text)))
 
 pub some_reading : TextsHaveAReading → AssignmentFunctionExists → SomeReadingExists
-some_reading law seats =
+some_reading law plans =
     let instances = some_instances law in
-    (record { instance = instances.0; plan = seats.0 }, record { instances = instances.1; plans = seats.1 })
+    (record { instance = instances.0; plan = plans.0 }, record { instances = instances.1; plans = plans.1 })
 
 module _ (law : ReadingsAreUnique) where
   same : (format : Format) (text : List ℕ) (r q : Result Instance ReadFault) → IsReadResult format text r → IsReadResult format text q → r ≡ q
@@ -38,7 +38,7 @@ module _ (law : ReadingsAreUnique) where
   same format text (Err f) (Err g) a b = ap (λ x. Err x) ((law format text).faults f g a b)
 
 pub readings_agree : ReadingsAreUnique → AssignmentIsUnique → ReadingsAgree
-readings_agree law seats reading other a b = record {
+readings_agree law plans reading other a b = record {
   instances = λ format text. same law format text (reading.instance format text) (other.instance format text) (a.instances format text) (b.instances format text);
-  plans = λ p pins text valid. seats p pins text (reading.plan p pins text) (other.plan p pins text) (a.plans p pins text valid) (b.plans p pins text valid);
+  plans = λ p pins text valid. plans p pins text (reading.plan p pins text) (other.plan p pins text) (a.plans p pins text valid) (b.plans p pins text valid);
 }

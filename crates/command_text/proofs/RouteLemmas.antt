@@ -15,7 +15,7 @@ at P none [] k all = none
 at P none (x ∷ xs) zero all = all.0
 at P none (x ∷ xs) (suc k) all = at P none xs k all.1
 
--- if the stops of each route are current and distinct, so are those of this vehicle's route
+-- if the stops of each route are known and distinct, so are those of vehicle v
 pub vehicle_once : (p : Instance) (routes : List (List ℕ)) (v : ℕ) → All (AreDistinctStops p) routes → AreDistinctStops p (route_of routes v)
 vehicle_once p routes zero all = none_once p
 vehicle_once p routes (suc k) all = at (AreDistinctStops p) (none_once p) routes k (recursion_from_All (AreDistinctStops p) routes all)

@@ -1,4 +1,4 @@
--- Scanning the first word of a line, byte by byte.
+-- The state after a scan of a line shows whether the line announces a text.
 use Rattle.std.proofs.Common.{
   ◌≡◌,
   ◌∙◌,
@@ -36,7 +36,7 @@ use Rattle.std.proofs.lemmas.List.{get_or_at}
 use Rattle.std.proofs.Math.Seq.{take-append_seam}
 use Rattle.text_lines.specs.Words.{LinesSplitIntoWords, EndsWord, ConsistsOfWords, IsWord, is_blank, is_blank_line, words_of}
 use Rattle.command_text.specs.Parsing.{announces_text}
-use Rattle.command_text.specs.Scanning.{next_letter, is_announcement, scanned, scanned_on, scanned_byte}
+use Rattle.command_text.specs.Scanning.{next_letter, is_announcement, scan_of, scanned_on, scanned_byte}
 use Rattle.command_text.specs.declared.first_word.FirstWord.{FirstWord}
 use Rattle.command_text.specs.declared.first_word.FirstWord.TheVariants.{Nothing, L, Lo, Loa, A, Ad, Ado, Adop, Whole, WholeAndReturn, Over, Other}
 
@@ -44,7 +44,7 @@ pub scanned_append : (w : FirstWord) (xs ys : List ℕ) → scanned_on w (xs ++ 
 scanned_append w [] ys = refl
 scanned_append w (x ∷ xs) ys = scanned_append (scanned_byte w x) xs ys
 
--- the first word is whole, whether or not a blank follows it
+-- the first word is `load` or `adopt`, whether or not a blank follows it
 abbrev is_whole : FirstWord → Bool
 is_whole Whole = true
 is_whole Over = true
@@ -65,14 +65,14 @@ returned (b ∷ bs) = other bs
 abbrev NoBlank : List ℕ → Type 0
 NoBlank word = AllByRecursion (λ b. is_blank b ≡ false) word
 
--- from this state on, the rest of the word must be these letters
+-- from this state on, the first word is whole exactly if its remaining bytes are these letters
 abbrev TellsWord : FirstWord → List ℕ → Type 0
 TellsWord state letters = (word rest : List ℕ) → NoBlank word → EndsWord rest → is_whole (scanned_on state (word ++ rest)) ≡ bytes_eq letters word
 
 return_is_no_blank : (b : ℕ) → is_blank b ≡ true → b ≡ 13 → ⊥
 return_is_no_blank b blank is = let not_so : is_blank b ≡ false = ap is_blank is in both_ways (is_blank b) not_so blank
 
--- after the whole word and a blank, the word stays whole
+-- after `load` or `adopt` and a blank, the first word stays whole
 after_blank : (b : ℕ) (bs : List ℕ) → is_blank b ≡ true → is_whole (scanned_on (scanned_byte Whole b) bs) ≡ true
 after_blank b bs blank = elim (cases_Bool (b == 13)) [
   | inl t ↦ absurd (return_is_no_blank b blank (eqb-true b 13 t))
@@ -130,14 +130,14 @@ after_ad = one_letter Ad Ado 111 (112 ∷ 116 ∷ []) (λ b. refl) refl refl aft
 after_a : TellsWord A (100 ∷ 111 ∷ 112 ∷ 116 ∷ [])
 after_a = one_letter A Ad 100 (111 ∷ 112 ∷ 116 ∷ []) (λ b. refl) refl refl after_ad
 
--- the state after a first letter, by whether it is that of `load` or that of `adopt`
+-- the state after the first letter, by whether the letter is l and whether it is a
 abbrev first_of : Bool → Bool → FirstWord
 first_of l a = if l then L else if a then A else Other
 
 first_letter : (b : ℕ) → is_blank b ≡ false → scanned_byte Nothing b ≡ first_of (b == 108) (b == 97)
 first_letter b not_so = ap (λ t. if t then Nothing else first_of (b == 108) (b == 97)) not_so
 
--- whether the rest of the word completes `load` or `adopt`
+-- the rest of the word completes `load` if l is true, or `adopt` if a is true
 abbrev either : Bool → Bool → List ℕ → Bool
 either l a word = (l && bytes_eq (111 ∷ 97 ∷ 100 ∷ []) word) || (a && bytes_eq (100 ∷ 111 ∷ 112 ∷ 116 ∷ []) word)
 
@@ -165,20 +165,20 @@ whole_word (a ∷ word) rest is ends =
     ap (λ w. is_whole (scanned_on w (word ++ rest))) (first_letter a is.1.0) ∙ by_letter word rest is.1.1 ends (a == 108) (a == 97) apart
     ∙ ap (λ t. either t (a == 97) word) (turned a 108) ∙ ap (λ t. either (108 == a) t word) (turned a 97)
 
-blanks : (gap : List ℕ) → is_blank_line gap ≡ true → scanned gap ≡ Nothing
+blanks : (gap : List ℕ) → is_blank_line gap ≡ true → scan_of gap ≡ Nothing
 blanks [] all = refl
 blanks (b ∷ bs) all = elim (cases_Bool (is_blank b)) [
   | inl t ↦ rw t (blanks bs (rw t at all))
   | inr f ↦ absurd (both_ways (is_blank_line (b ∷ bs)) (ap (λ t. t && is_blank_line bs) f) all)
 ]
 
-made : (line : List ℕ) (words : List (List ℕ)) → ConsistsOfWords line words → is_whole (scanned line) ≡ announces_text words
+made : (line : List ℕ) (words : List (List ℕ)) → ConsistsOfWords line words → is_whole (scan_of line) ≡ announces_text words
 made line [] is = ap is_whole (blanks line is)
 made line (word ∷ words) is =
-    ap (λ l. is_whole (scanned l)) is.2 ∙ ap is_whole (scanned_append Nothing is.0 (word ++ is.1)) ∙ ap (λ w. is_whole (scanned_on w (word ++ is.1))) (blanks is.0 is.3)
+    ap (λ l. is_whole (scan_of l)) is.2 ∙ ap is_whole (scanned_append Nothing is.0 (word ++ is.1)) ∙ ap (λ w. is_whole (scanned_on w (word ++ is.1))) (blanks is.0 is.3)
     ∙ whole_word word is.1 is.4 is.5
 
--- ---- the carriage return at the end
+-- ---- a carriage return at the end of the line
 one_of : (b : Bool) (x y : FirstWord) → is_announcement x ≡ is_whole x → is_announcement y ≡ is_whole y → is_announcement (if b then x else y) ≡ is_whole (if b then x else y)
 one_of true x y sx sy = sx
 one_of false x y sx sy = sy
@@ -213,39 +213,39 @@ with_return Over = refl
 with_return Other = refl
 
 record Ending (line : List ℕ) : Type 0 where
-  front : List ℕ
+  prefix : List ℕ
   byte : ℕ
-  whole : line ≡ front ++ byte ∷ []
+  whole : line ≡ prefix ++ byte ∷ []
 
 ending : (b : ℕ) (bs : List ℕ) → Ending (b ∷ bs)
-ending b [] = record { front = []; byte = b; whole = refl }
-ending b (c ∷ cs) = let e = ending c cs in record { front = b ∷ e.front; byte = e.byte; whole = ap (λ l. b ∷ l) e.whole }
+ending b [] = record { prefix = []; byte = b; whole = refl }
+ending b (c ∷ cs) = let e = ending c cs in record { prefix = b ∷ e.prefix; byte = e.byte; whole = ap (λ l. b ∷ l) e.whole }
 
-len_before : (front : List ℕ) (b : ℕ) → length (front ++ b ∷ []) - 1 ≡ length front
-len_before front b = omega (arith, length-append front (b ∷ []))
+len_before : (prefix : List ℕ) (b : ℕ) → length (prefix ++ b ∷ []) - 1 ≡ length prefix
+len_before prefix b = omega (arith, length-append prefix (b ∷ []))
 
-stripped : (front : List ℕ) (b : ℕ) → strip_carriage_return (front ++ b ∷ []) ≡ (if b == 13 then front else front ++ b ∷ [])
-stripped front b =
-    let line = front ++ b ∷ [] in
-    ap (λ n. if slice_index line n == 13 then take n line else line) (len_before front b)
-    ∙ ap (λ x. if x == 13 then take (length front) line else line) (get_or_at front b [] 0 (length front) refl)
-    ∙ ap (λ f. if b == 13 then f else line) (take-append_seam front (b ∷ []))
+stripped : (prefix : List ℕ) (b : ℕ) → strip_carriage_return (prefix ++ b ∷ []) ≡ (if b == 13 then prefix else prefix ++ b ∷ [])
+stripped prefix b =
+    let line = prefix ++ b ∷ [] in
+    ap (λ n. if slice_index line n == 13 then take n line else line) (len_before prefix b)
+    ∙ ap (λ x. if x == 13 then take (length prefix) line else line) (get_or_at prefix b [] 0 (length prefix) refl)
+    ∙ ap (λ f. if b == 13 then f else line) (take-append_seam prefix (b ∷ []))
 
-at_end : (front : List ℕ) (b : ℕ) → is_announcement (scanned (front ++ b ∷ [])) ≡ is_whole (scanned (strip_carriage_return (front ++ b ∷ [])))
-at_end front b = elim (cases_Bool (b == 13)) [
+at_end : (prefix : List ℕ) (b : ℕ) → is_announcement (scan_of (prefix ++ b ∷ [])) ≡ is_whole (scan_of (strip_carriage_return (prefix ++ b ∷ [])))
+at_end prefix b = elim (cases_Bool (b == 13)) [
   | inl t ↦ (
-      ap is_announcement (scanned_append Nothing front (b ∷ [])) ∙ ap (λ c. is_announcement (scanned_byte (scanned front) c)) (eqb-true b 13 t) ∙ with_return (scanned front)
-      ∙ sym (ap (λ l. is_whole (scanned l)) (stripped front b ∙ ap (λ t. if t then front else front ++ b ∷ []) t)))
+      ap is_announcement (scanned_append Nothing prefix (b ∷ [])) ∙ ap (λ c. is_announcement (scanned_byte (scan_of prefix) c)) (eqb-true b 13 t) ∙ with_return (scan_of prefix)
+      ∙ sym (ap (λ l. is_whole (scan_of l)) (stripped prefix b ∙ ap (λ t. if t then prefix else prefix ++ b ∷ []) t)))
   | inr f ↦ (
-      ap is_announcement (scanned_append Nothing front (b ∷ [])) ∙ no_return (scanned front) b f ∙ sym (ap is_whole (scanned_append Nothing front (b ∷ [])))
-      ∙ sym (ap (λ l. is_whole (scanned l)) (stripped front b ∙ ap (λ t. if t then front else front ++ b ∷ []) f)))
+      ap is_announcement (scanned_append Nothing prefix (b ∷ [])) ∙ no_return (scan_of prefix) b f ∙ sym (ap is_whole (scanned_append Nothing prefix (b ∷ [])))
+      ∙ sym (ap (λ l. is_whole (scan_of l)) (stripped prefix b ∙ ap (λ t. if t then prefix else prefix ++ b ∷ []) f)))
 ]
 
-without_return : (piece : List ℕ) → is_announcement (scanned piece) ≡ is_whole (scanned (strip_carriage_return piece))
+without_return : (piece : List ℕ) → is_announcement (scan_of piece) ≡ is_whole (scan_of (strip_carriage_return piece))
 without_return [] = refl
-without_return (b ∷ bs) = let e = ending b bs in subst (λ l. is_announcement (scanned l) ≡ is_whole (scanned (strip_carriage_return l))) (sym e.whole) (at_end e.front e.byte)
+without_return (b ∷ bs) = let e = ending b bs in subst (λ l. is_announcement (scan_of l) ≡ is_whole (scan_of (strip_carriage_return l))) (sym e.whole) (at_end e.prefix e.byte)
 
-pub says_first_word : LinesSplitIntoWords → (piece : List ℕ) → is_announcement (scanned piece) ≡ announces_text (words_of (strip_carriage_return piece))
+pub says_first_word : LinesSplitIntoWords → (piece : List ℕ) → is_announcement (scan_of piece) ≡ announces_text (words_of (strip_carriage_return piece))
 says_first_word made_of piece =
     let line = strip_carriage_return piece in
     without_return piece ∙ made line (words_of line) ((made_of line (words_of line)).0 refl)

@@ -1,5 +1,5 @@
--- Annealing in stages: the limit on the number of operations makes no difference, and an interrupted list is
--- continued by the same operations.
+-- Annealing in stages: any limit on the number of operations that is high enough leads to the same list. A list
+-- that is cut off is continued by the same operations.
 use Rattle.std.proofs.Common.{◌≡◌, ◌∙◌, inl, inr, ℕ, zero, suc, ◌+◌, ◌-◌, ◌*◌, ◌<◌, ◌≤◌, ◌^◌, Bool, true, false, if◌then◌else◌, List, [], ◌∷◌, Option, Some, None, refl, sym, ap, subst, arith}
 use Rattle.std.specs.Prelude.{nat_lt, min, take}
 use Rattle.std.specs.Option.{option_map}
@@ -25,7 +25,7 @@ use Rattle.command_text.specs.Staging.{
   first_anneal_end,
   halfway,
   made_by,
-  making,
+  next_operations,
   next_deviation,
   next_steps,
   set_before,
@@ -36,7 +36,7 @@ use Rattle.command_text.specs.Staging.{
   steps_due,
 }
 
--- ---- the stage that is found
+-- ---- the stage of a step
 
 pub some_is : {A : Type 0} (x y : A) → Some x ≡ Some y → x ≡ y
 some_is x y e = cc
@@ -49,14 +49,14 @@ found_by : (from to n k m : ℕ) (rest : Option ℕ) (b : Bool) → nat_lt n (bo
 found_by from to n k m rest true t later is = subst (λ i. n < boundary from to (i + 1)) (some_is k m is) (ltb-true n (boundary from to (k + 1)) t)
 found_by from to n k m rest false t later is = later is
 
--- the end of the stage comes after the step
+-- the stage that is found ends after step n
 ends_after : (from to n k left m : ℕ) → stage_among from to n k left ≡ Some m → n < boundary from to (m + 1)
 unfolding stage_among
 ends_after from to n k zero m e = none_is m e
 ends_after from to n k (suc left) m e =
     found_by from to n k m (stage_among from to n (k + 1) left) (nat_lt n (boundary from to (k + 1))) refl (ends_after from to n (k + 1) left m) e
 
--- once all steps up to `to` are made, every boundary of a stage is passed
+-- if n is not below `to`, no boundary of a stage is above n
 bounded : (from to n m : ℕ) → m ≤ 20 → from ≤ n → to ≤ n → boundary from to m ≤ n
 bounded from to n m few begun past = let most : (to - from) * m ≤ (to - from) * 20 = mul-le-mul_left (to - from) few in omega (arith, most, begun, past)
 
@@ -110,10 +110,10 @@ module _ (from to : ℕ) where
       at true t is = none_is k is
       at false f is = (ltb-false n from f, few_among n 0 20 k is)
 
--- ---- the operation that is due
+-- ---- the next operation
 
--- an operation that is due makes at least one step, and none after the last one. So it is accepted if the last
--- step is within the limits
+-- A next operation makes at least one step and does not pass the last step. So it is accepted if `to` is within
+-- the limits.
 pub record IsDue (from to n : ℕ) (c : Command) : Type 0 where
   pub begun : from ≤ n
   pub some : 0 < steps_of c
@@ -149,7 +149,7 @@ reduce_due from to n end begun below within = record {
   fits = λ j same room. free_within 524288 j n (min (end - n) 524288) (omega (arith, below)) (omega arith) (omega (arith, below, within, room)) same;
 }
 
--- a stage ends before the last step or at it
+-- each stage ends at `to` or before it
 end_within : (from to n k : ℕ) → stage_of from to n ≡ Some k → boundary from to (k + 1) ≤ to
 end_within from to n k e =
     let found = few_stages from to n k e in
@@ -165,7 +165,7 @@ staged_due from to n (Some k) c found is =
     subst (IsDue from to n) (some_is (stage_piece from to n k) c is)
     (anneal_due from to n (boundary from to (k + 1)) (few_stages from to n k found).0 (ends_of from to n k found) (end_within from to n k found))
 
--- an operation that is due in a range is also due in a range that begins earlier
+-- an operation that is next in a range is also next in a range that begins earlier
 later_due : (from mid to n : ℕ) (c : Command) → from ≤ mid → IsDue mid to n c → IsDue from to n c
 later_due from mid to n c before due = let begun = due.begun in record {
   begun = omega (arith, before, begun);
@@ -204,7 +204,7 @@ module _ (from to : ℕ) where
   pub due : (j : JobValue) (c : Command) → next_steps from to j ≡ Some c → IsDue from to j.steps c
   due j c e = is_due j.problem.kind from to j.steps c e
 
-  -- an operation makes at least one step, and there are steps left before it
+  -- the next operation raises the number of steps, which is below `to` before it
   pub goes_on : (j : JobValue) (c : Command) → next_steps from to j ≡ Some c → (j.steps < (job_after j c).steps) × (j.steps < to)
   goes_on j c e =
       let d = due j c e in
@@ -213,7 +213,7 @@ module _ (from to : ℕ) where
       let last = d.last in
       (omega (arith, counted, some), omega (arith, some, last))
 
-  -- ---- the limit on the number of operations makes no difference
+  -- ---- any limit that is high enough leads to the same operations
 
   same_made : (f g : JobValue → List Command) (j : JobValue) (o : Option Command) → ((c : Command) → o ≡ Some c → f (job_after j c) ≡ g (job_after j c)) → made_by f o j ≡ made_by g o j
   same_made f g j None rest = refl
@@ -228,7 +228,7 @@ module _ (from to : ℕ) where
       → staged_within from to (suc f) j ≡ staged_within from to (suc g) j
   unfolding staged_within
   one_more f g j rest =
-      same_set (making from to (staged_within from to f)) (making from to (staged_within from to g)) (next_deviation from to j) j
+      same_set (next_operations from to (staged_within from to f)) (next_operations from to (staged_within from to g)) (next_deviation from to j) j
       (λ i same. same_made (staged_within from to f) (staged_within from to g) i (next_steps from to i) (λ c e. rest i c same e))
 
   enough : (f g : ℕ) (j : JobValue) → to - j.steps ≤ f → to - j.steps ≤ g → staged_within from to (suc f) j ≡ staged_within from to (suc g) j
@@ -254,16 +254,16 @@ module _ (from to : ℕ) where
   -- if a deviation is set before the next steps, it comes first
   pub next_set : (j : JobValue) (d : ℕ) → next_deviation from to j ≡ Some d → stage_commands from to j ≡ Deviation d ∷ commands_in_stage from to (with_deviation j d)
   unfolding staged_within
-  next_set j d e = ap (λ o. set_before (making from to (staged_within from to (to - j.steps))) o j) e
+  next_set j d e = ap (λ o. set_before (next_operations from to (staged_within from to (to - j.steps))) o j) e
 
   pub none_set : (j : JobValue) → next_deviation from to j ≡ None → stage_commands from to j ≡ commands_in_stage from to j
   unfolding staged_within
-  none_set j e = ap (λ o. set_before (making from to (staged_within from to (to - j.steps))) o j) e
+  none_set j e = ap (λ o. set_before (next_operations from to (staged_within from to (to - j.steps))) o j) e
 
   -- ---- a list of operations that is cut anywhere
 
-  -- after the first `count` of these operations, repeating the command leads to the same state as these
-  -- operations
+  -- if the command is repeated after the first `count` of these operations, it ends in the state after all of
+  -- them
   abbrev LeadsOn : JobValue → ℕ → List Command → Type 0
   LeadsOn j count commands =
       let mid = after (Loaded j) (take count commands) in after mid (commands_of (makes.Stages from to) mid) ≡ after (Loaded j) commands

@@ -1,4 +1,5 @@
--- Steps are split into pieces, beginning with the first one.
+-- The step counts of a command's operations: none for 0 steps, otherwise that of the first operation and those
+-- of the remaining steps.
 use Rattle.std.proofs.Common.{◌≡◌, ◌∙◌, inl, inr, ℕ, suc, ◌-◌, ◌/◌, ◌%◌, ◌<◌, ◌≤◌, List, [], ◌∷◌, ◌++◌, replicate, if◌then◌else◌, ◌==◌, sym, ap, refl, arith}
 use Rattle.std.proofs.Math.Nat.{div-eq-sub-div, div-eq_of_lt, mod-eq-sub-mod, mod-eq_of_lt, zero-div, zero-mod}
 use Rattle.std.proofs.Math.Numerals.{suc-eq-add-one}

@@ -1,4 +1,4 @@
--- The text of a solution describes one plan for a problem and its pins, or has one reason why it does not.
+-- The text of a solution has one plan for a problem and its pins, or one reason why it has none.
 use Rattle.std.proofs.Common.{ℕ, List, Result, inl, inr}
 use Rattle.plan_types.specs.Instance.{Instance, IsInstance}
 use Rattle.plan_types.specs.declared.plans.Plan.{Plan}

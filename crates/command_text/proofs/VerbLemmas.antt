@@ -1,4 +1,4 @@
--- A loop over a table of names: either the first name is the word, or the result is that of the rest of the
+-- Lemmas about a table of names: either its first name is the word, or the result is that of the rest of the
 -- table.
 use Rattle.std.proofs.Common.{sym, suc, zero, ◌≡◌, ℕ, ◌<◌, ◌≤◌, true, false, List, [], ◌∷◌, length, map, refl, ap, arith, bytes_eq, slice_index_or, Bor, Some, None}
 use Rattle.std.specs.Prelude.{drop, if◌then◌else◌}

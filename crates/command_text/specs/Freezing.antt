@@ -1,4 +1,4 @@
--- The pins of `freeze T`: for each vehicle, the stops to which it has departed by a time.
+-- The operations of `freeze T`: for each vehicle, a pin with the stops to which it has departed by time T.
 use Rattle.std.specs.Prelude.{ℕ, zero, suc, ◌+◌, ◌-◌, max, nat_le, nat_lt, is_none, if◌then◌else◌, Bool, List, [], ◌∷◌, length, Option, Some, None}
 use Rattle.std.specs.List.{find, prefix_len, range_with_len}
 use Rattle.std.specs.Option.{option_and_then}
@@ -12,13 +12,12 @@ use Rattle.command_core.specs.Refusals.{job_refusal}
 use Rattle.command_types.specs.declared.commands.Command.{Command}
 use Rattle.command_types.specs.declared.commands.Command.TheVariants.{Pin}
 
--- Whether the vehicle departs to this place by time t: service starts there at most the leg's travel time after
--- t. A vehicle that would be early waits at the place before.
+-- Whether the vehicle has departed to this place by time t: service there starts at t plus the travel time of
+-- the leg, or earlier. A vehicle that would be early waits at the previous place.
 abbrev pub has_departed : ℕ → Visit → Bool
 has_departed t v = nat_le v.start (t + v.leg)
 
--- The number of stops of its route to which a vehicle has departed by time t: the length of the longest prefix
--- with a departure to every stop.
+-- The length of the longest prefix of a route to whose stops the vehicle has departed by time t.
 abbrev pub departed_count : Instance → List ℕ → ℕ → ℕ
 departed_count p route t = prefix_len (λ k. has_departed t (visit_after p route k)) (range_with_len 0 (length route))
 
@@ -27,7 +26,7 @@ module _ (j : JobValue) where
   abbrev pub may_be_pinned : ℕ → ℕ → Bool
   may_be_pinned v k = is_none (job_refusal j (Pin v k))
 
-  -- The smallest number of stops of vehicle v, k or more, that may be pinned.
+  -- The smallest number of stops, at least k, that may be pinned for vehicle v, if there is one.
   abbrev pub pin_end : ℕ → ℕ → Option ℕ
   pin_end v k = find (may_be_pinned v) (range_with_len k (length (route_of j.plan v) + 1 - k))
 
@@ -35,24 +34,24 @@ module _ (j : JobValue) where
 abbrev pub above : ℕ → ℕ → Option ℕ
 above low n = if nat_lt low n then Some n else None
 
--- The new length of the pin of vehicle v at time t, if it is longer than the old pin: the smallest number of
--- stops that may be pinned and that includes all stops to which the vehicle has departed.
+-- The length of the pin of vehicle v after `freeze` for time t, if it is longer than the old pin. It is the
+-- smallest number of stops that may be pinned and includes the old pin and all stops to which the vehicle has
+-- departed.
 abbrev pub new_pin_len : ℕ → JobValue → ℕ → Option ℕ
 new_pin_len t j v =
     let pinned = length (route_of j.pins v) in
     option_and_then (above pinned) (pin_end j v (max pinned (departed_count j.problem (route_of j.plan v) t)))
 
--- The operation that sets the given pin, and the operations after it. Without a pin, only the operations that
--- follow.
+-- The operation that sets the given pin of vehicle v, if there is one, and then the operations `follows`.
 abbrev pub pinned_before : (JobValue → List Command) → ℕ → Option ℕ → JobValue → List Command
 pinned_before follows v None j = follows j
 pinned_before follows v (Some k) j = Pin v k ∷ follows (job_after j (Pin v k))
 
--- The operations that make the pins of n vehicles longer, beginning with vehicle v.
+-- The operations that lengthen the pins of n vehicles, beginning with vehicle v.
 unfoldable pub freeze_vehicles : ℕ → ℕ → ℕ → JobValue → List Command
 freeze_vehicles t v zero j = []
 freeze_vehicles t v (suc n) j = pinned_before (freeze_vehicles t (v + 1) n) v (new_pin_len t j v) j
 
--- The operations that make the pins of vehicle v and of all vehicles after it longer.
+-- The operations that lengthen the pins of vehicle v and of all later vehicles.
 abbrev pub freeze_commands : ℕ → ℕ → JobValue → List Command
 freeze_commands t v j = freeze_vehicles t v (j.problem.fleet + 1 - v) j

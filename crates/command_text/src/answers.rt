@@ -2,15 +2,13 @@
 ghost use Rattle.std.specs.Prelude.{◌≡◌, ◌≤◌, ◌+◌, ◌++◌, [], codes, decimal, length};
 ghost use Rattle.instance_read.specs.Names.{kind_name};
 ghost use Rattle.route_sched.specs.Cost.{cost_of};
-ghost use Rattle.command_text.specs.Answers.{at_text, broken_text, cost_text, next_text, no_text, pin_text, read_text, sol_fault_text, unseated_text};
+ghost use Rattle.command_text.specs.Answers.{at_text, broken_text, cost_text, next_text, no_text, pin_text, read_text, sol_fault_text, assignment_fault_text};
 ghost use Rattle.command_text.specs.Answering.{progress_after};
 
 use command_core::{Command, Job, Refusal};
 use instance_read::{ReadFault, ReadFaultKind};
 use itoa::Buffer;
-use plan_audit::passing_is_local;
 use plan_types::Cost;
-use route_sched::plan_cost;
 use sol_text::{SolFault, SolFaultKind};
 use std::marker::Model;
 use vehicle_assignment::AssignmentFault;
@@ -94,12 +92,16 @@ pub enum Answer {
     /// The device failed in an earlier command.
     Broken,
     Refused(Refusal),
-    /// The instance's text has this fault.
+    /// The text of the instance has this fault.
     Read(ReadFault),
-    /// The solution's text is not a plan.
+    /// The text of the solution does not become a plan, for this reason.
     AssignmentFault(AssignmentFault),
     /// There are requests in no route, so there is no solution to print.
     Unplanned,
+    /// The instance has no times, so `freeze` can't decide which stops to pin.
+    NoTimes,
+    /// No format can express the requests as they are.
+    NoFormat,
     /// The store can't be written any more.
     Spent,
     /// The device failed in this command.
@@ -121,8 +123,10 @@ impl Answer {
             Answer::Broken => no_line("Broken"),
             Answer::Refused(refusal) => no_line(refusal.name()),
             Answer::Read(fault) => fault_line(*fault),
-            Answer::AssignmentFault(why) => unseated_line(*why),
+            Answer::AssignmentFault(why) => assignment_fault_line(*why),
             Answer::Unplanned => no_line("Unplanned"),
+            Answer::NoTimes => no_line("NoTimes"),
+            Answer::NoFormat => no_line("NoFormat"),
             Answer::Spent => no_line("Spent"),
             Answer::DeviceFault => words("fault device"),
         }
@@ -163,9 +167,9 @@ fn fault_line(fault: ReadFault) -> ShortLine
     }
 }
 
-// Returns the answer to a solution's text that is not a plan.
-fn unseated_line(why: AssignmentFault) -> ShortLine
-    ensures { result ≡ unseated_text why }
+// Returns the answer to the text of a solution that does not become a plan.
+fn assignment_fault_line(why: AssignmentFault) -> ShortLine
+    ensures { result ≡ assignment_fault_text why }
 {
     match why {
         AssignmentFault::Sol(fault) => sol_fault_line(fault),
@@ -214,19 +218,12 @@ fn broken_line(rule: u32, route: u64, place: u64, stop: u32) -> ShortLine
     line
 }
 
-/// Returns the cost of the incumbent plan.
-pub(crate) fn cost(job: &Job) -> Cost
-    ensures { result ≡ cost_of job.now.problem job.now.plan }
-{
-    passing_is_local();
-    plan_cost(&job.problem, &job.plan)
-}
-
-/// Returns the line with the progress of a search: `at STEPS UNPLANNED VEHICLES DISTANCE`.
-pub fn at_line(job: &Job) -> ShortLine
+/// Returns the line with the progress of a command that makes steps: `at STEPS UNPLANNED VEHICLES DISTANCE`. The
+/// cost of the incumbent is known after each operation, so the caller passes it.
+pub fn at_line(job: &Job, cost: Cost) -> ShortLine
+    requires { cost ≡ cost_of job.now.problem job.now.plan }
     ensures { result ≡ at_text job.now }
 {
-    let cost = cost(job);
     let mut line = ShortLine::new();
     line.put("at ");
     line.put_number(job.steps);
@@ -235,11 +232,11 @@ pub fn at_line(job: &Job) -> ShortLine
     line
 }
 
-/// The line printed after an operation of a command that takes several.
+/// The line to print after an operation of a command that takes several.
 #[derive(Clone, Copy, Debug, PartialEq, Eq)]
 pub enum Progress {
     Nothing,
-    /// The steps so far (`at_line`).
+    /// The number of steps so far, and the cost (`at_line`).
     Stepped,
     /// The pin that was set (`pin_line`).
     Pinned { vehicle: u32, stops: u32 },
@@ -271,7 +268,7 @@ pub fn pin_line(vehicle: u32, stops: u32) -> ShortLine
     line
 }
 
-/// Returns the line with the number that the next order gets: `next N`. For a pair this is the number of its
+/// Returns the line with the number that the next request gets: `next N`. For a pair this is the number of its
 /// pickup.
 pub fn next_line(job: &Job) -> ShortLine
     ensures { result ≡ next_text job.now }

@@ -1,16 +1,17 @@
-//! The numbers of a line. Each integer is kept in every form that a field may need, and checked once the
+//! The numbers of a line. Each integer is kept in every type that a field may need. It is checked once the
 //! command is known.
 ghost use Rattle.std.specs.Prelude.{◌≡◌, ◌<◌, ◌≤◌, ◌++◌, [], ◌∷◌, length, None, Some, MatchOption, OnSome};
 ghost use Rattle.command_text.specs.Parsing.{as_u32, field_in, field_of, fields_of};
 ghost use Rattle.command_text.specs.Numbers.{IsNoCommand};
+ghost use Rattle.command_text.specs.declared.fields.TheConstants.{MAX_NUMBERS};
 
 use std::marker::Model;
 use text_lines::{Number, Words};
 
-/// The maximum count of numbers in a command.
+/// The largest count of numbers in a command.
 const MAX_NUMBERS: usize = 11;
 
-/// An integer as an `i32` and as a `u64`, if it fits.
+/// An integer as an `i32` and as a `u64`, or `None` for a type that it does not fit.
 #[derive(Clone, Copy)]
 pub(crate) struct Field {
     pub(crate) signed: Option<i32>,
@@ -35,7 +36,7 @@ impl Field {
     }
 }
 
-// Reads a word as an integer.
+// Reads a word as an integer. Returns `None` if it is not one.
 fn integer(word: &[u8]) -> Option<Field>
     ensures { result ≡ field_in word.now }
 {
@@ -45,10 +46,10 @@ fn integer(word: &[u8]) -> Option<Field>
     }
 }
 
-/// The numbers of a line, as many as a command may have.
+/// The numbers of a line, at most `MAX_NUMBERS` of them.
 #[derive(Drop)]
 pub(crate) struct Fields {
-    fields: [Field; 11],
+    fields: [Field; MAX_NUMBERS],
     used: usize,
 }
 
@@ -74,14 +75,14 @@ impl Fields {
             unsigned: None,
         };
         Fields {
-            fields: [none; 11],
+            fields: [none; MAX_NUMBERS],
             used: 0,
         }
     }
 
-    // Adds a number if there is room.
+    // Adds a number. Returns `None` if there is no room.
     fn push(&mut self, field: Field) -> Option<()>
-        ensures none { result ≡ None → 11 ≤ length self.old }
+        ensures none { result ≡ None → MAX_NUMBERS ≤ length self.old }
         ensures some { OnSome result (self.new ≡ self.old ++ field ∷ []) }
     {
         if self.used == MAX_NUMBERS {
@@ -92,7 +93,7 @@ impl Fields {
         Some(())
     }
 
-    /// Returns the numbers so far, in order.
+    /// Returns the numbers that were added, in order.
     pub(crate) fn as_slice(&self) -> &[Field]
         ensures { result.now ≡ self.now }
     {

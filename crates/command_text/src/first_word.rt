@@ -3,12 +3,12 @@ ghost use Rattle.std.specs.Prelude.{◌≡◌, ℕ, List, ◌++◌, []};
 ghost use Rattle.std.specs.Str.Lines.{strip_carriage_return};
 ghost use Rattle.text_lines.specs.Words.{words_of};
 ghost use Rattle.command_text.specs.Parsing.{announces_text};
-ghost use Rattle.command_text.specs.Scanning.{is_announcement, scanned, scanned_byte, scanned_on};
+ghost use Rattle.command_text.specs.Scanning.{is_announcement, scan_of, scanned_byte, scanned_on};
 
 use text_lines::lines_split_into_words;
 
-/// The state of scanning a line's first word. For a line that is too long to be kept, it shows whether the line
-/// announces a text.
+/// The state of a scan for the first word of a line. For a line that is too long to be kept, it shows whether
+/// the line announces a text.
 #[derive(Clone, Copy, Debug, PartialEq, Eq)]
 pub enum FirstWord {
     /// Only blanks so far.
@@ -22,27 +22,28 @@ pub enum FirstWord {
     Ad,
     Ado,
     Adop,
-    /// The whole of `load` or `adopt`.
+    /// `load` or `adopt`.
     Whole,
-    /// The whole word and then a carriage return. It belongs to the word unless the line ends with it.
+    /// `load` or `adopt`, and then a carriage return. It belongs to the word unless the line ends with it.
     WholeAndReturn,
-    /// The whole word and then a blank.
+    /// `load` or `adopt`, and then a blank and any bytes.
     Over,
+    /// Another word, or its beginning.
     Other,
 }
 
 impl FirstWord {
     /// Returns the state before the first byte.
     pub fn new() -> FirstWord
-        ensures { result ≡ scanned [] }
+        ensures { result ≡ scan_of [] }
     {
         FirstWord::Nothing
     }
 
-    /// Returns the state after these bytes too.
+    /// Returns the state after these bytes are scanned, too.
     pub fn take(self, bytes: &[u8]) -> FirstWord
-        ensures { (before : List ℕ) → self ≡ scanned before
-            → result ≡ scanned (before ++ bytes.now) }
+        ensures { (before : List ℕ) → self ≡ scan_of before
+            → result ≡ scan_of (before ++ bytes.now) }
     {
         self.after_all(bytes)
     }
@@ -78,10 +79,10 @@ impl FirstWord {
         }
     }
 
-    /// Returns whether the first word announces a text, once all bytes of the line before its line feed were
+    /// Returns whether the line announces a text. All bytes of the line before its line feed must have been
     /// taken.
     pub fn announces_text(self) -> bool
-        ensures { (piece : List ℕ) → self ≡ scanned piece
+        ensures { (piece : List ℕ) → self ≡ scan_of piece
             → result ≡ announces_text (words_of (strip_carriage_return piece)) }
     {
         lines_split_into_words();

@@ -1,6 +1,7 @@
 //! The operations of `freeze T`, one by one.
 ghost use Rattle.std.specs.Prelude.{◌≡◌, ◌≤◌, ◌<◌, ◌+◌, ◌-◌, ◌^◌, [], ◌∷◌, Some, None, IfSome, MatchOption, max, length};
 ghost use Rattle.std.specs.List.{find, range_with_len};
+ghost use Rattle.plan_types.specs.declared.limits.TheConstants.{MAX_STOP_NUMBER};
 ghost use Rattle.route_sched.specs.Route.{AreDistinctStops};
 ghost use Rattle.move_ops.specs.Insertion.{route_of};
 ghost use Rattle.command_core.specs.Effects.{effect};
@@ -15,8 +16,8 @@ use plan_audit::{passing_is_local, plans_are_disjoint_routes};
 use plan_types::Problem;
 use route_sched::{Visit, Visits};
 
-/// Returns the next pin that `freeze` sets for this time, beginning with vehicle `first`, and the cursor for
-/// the pins after it.
+/// Returns the next operation of `freeze` for this time, which sets the pin of vehicle `first` or of a later
+/// one, and the cursor after it.
 pub(crate) fn next_freeze_command(
     state: &State,
     job: &Job,
@@ -40,7 +41,7 @@ pub(crate) fn next_freeze_command(
     None
 }
 
-// Returns the length that `freeze` gives the vehicle's pin at this time, if the pin becomes longer.
+// Returns the length of the vehicle's pin after `freeze` for this time, if the pin becomes longer.
 fn new_pin_len(state: &State, job: &Job, time: u32, vehicle: u32) -> Option<u32>
     requires { state.now ≡ Loaded job.now }
     ensures { result ≡ new_pin_len time job.now vehicle }
@@ -64,7 +65,8 @@ fn above(low: usize, stops: u32) -> Option<u32>
     }
 }
 
-// Returns the number of stops of a route to which its vehicle has departed by this time. Takes no memory.
+// Returns the length of the longest prefix of a route to whose stops the vehicle has departed by this time.
+// Takes no memory.
 fn departed_count(problem: &Problem, route: &[u32], time: u32) -> usize
     requires { AreDistinctStops problem.now route.now }
     ensures { result ≡ departed_count problem.now route.now time }
@@ -81,17 +83,17 @@ fn departed_count(problem: &Problem, route: &[u32], time: u32) -> usize
     route.len()
 }
 
-// Returns whether the vehicle departs to this place by this time. A vehicle that would be early waits at the
-// place before.
+// Returns whether the vehicle has departed to this place by the given time. A vehicle that would be early waits
+// at the previous place.
 fn has_departed(visit: &Visit, time: u32) -> bool
     ensures { result ≡ has_departed time visit.now }
 {
     visit.start <= u64::from(time) + u64::from(visit.leg)
 }
 
-// Returns the smallest number of stops of the vehicle's route that may be pinned, from `first` on.
+// Returns the smallest number of stops, at least `first`, that may be pinned for the vehicle.
 fn pin_end(state: &State, route: &[u32], vehicle: u32, first: usize) -> Option<u32>
-    requires few { length route.now ≤ 40001 }
+    requires few { length route.now ≤ MAX_STOP_NUMBER + 1 }
     ensures { (job : _) → state.now ≡ Loaded job → route.now ≡ route_of job.plan vehicle
         → result ≡ pin_end job vehicle first }
 {

@@ -54,7 +54,7 @@ pub const HELP: &str = "Each line is one command:\n  \
     Spent          the store can't be written any more\n  \
     OutOfMemory    out of memory; you may repeat the same command";
 
-/// Returns the bytes of these lines.
+/// Returns the bytes of `HELP`.
 pub fn help_lines() -> &'static [u8]
     ensures { result.now ≡ help_text }
 {

@@ -6,7 +6,7 @@ use instance_read::{Format, ReadFault};
 use plan_types::Problem;
 use std::alloc::Global;
 
-/// Reads the text of an instance in this format. Returns the problem, the first fault of the text, or out of
+/// Reads the text of an instance in this format. Returns the problem, or the first fault of the text, or out of
 /// memory.
 pub fn read_instance(alloc: Global, format: Format, text: &[u8]) -> Result<Problem, ReadFault>
     ensures { (reading : Reading) → IsReading reading

@@ -1,4 +1,4 @@
-//! The laws of cutting and answering an input, each for every input, and the existence of a `Reading`.
+//! The laws about cutting and answering an input, each for every input, and the existence of a `Reading`.
 ghost use Rattle.std.specs.Prelude.{◌≡◌, []};
 ghost use Rattle.command_text.specs.Cutting.{pieces_of};
 ghost use Rattle.command_text.specs.Laws.{PiecesEnd, PiecesFollow, ReachedLinesMayBeCut, ReadingsAgree, SomeReadingExists, StagedLinesMayBeCut, StagesMayBeCut, StatesFollow};
@@ -34,9 +34,9 @@ pub fn reaches_may_be_cut()
     searches_add_up();
 }
 
-/// Proves that each text of an instance, in any format, has one problem or one first fault. Each text of a
-/// solution, for a problem and its pins, has one plan or one reason why there is none. So a `Reading` exists,
-/// and a guarantee for every reading holds for that one.
+/// Proves that exactly one `Reading` exists, so a guarantee for every reading holds for that one. Each text of
+/// an instance, in any format, has one problem or one first fault. Each text of a solution, for a problem and
+/// its pins, has one plan or one reason why there is none.
 pub fn texts_have_a_reading()
     ensures some { SomeReadingExists }
     ensures one { ReadingsAgree }

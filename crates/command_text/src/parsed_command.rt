@@ -1,9 +1,10 @@
 //! Parsing of a line into a command.
-ghost use Rattle.std.specs.Prelude.{◌≡◌};
+ghost use Rattle.std.specs.Prelude.{◌≡◌, ◌+◌};
 ghost use Rattle.std.specs.Option.{option_map_or};
 ghost use Rattle.text_lines.specs.Words.{words_of};
 ghost use Rattle.text_lines.specs.Numbers.{below};
-ghost use Rattle.command_text.specs.Parsing.{adopt_with, announces_text, requested, fields_of, parse_load, load_with, load_within, parse_numbers, text_within, parse_command, parse_words};
+ghost use Rattle.command_text.specs.declared.parsed_command.TheConstants.{MAX_TEXT_LEN};
+ghost use Rattle.command_text.specs.Parsing.{adopt_with, announces_text, parsed_line, fields_of, parse_load, load_with, load_within, parse_numbers, text_within, parse_command, parse_words};
 
 use crate::fields::{Field, Fields, integers};
 use crate::questions::Question;
@@ -21,12 +22,12 @@ pub const MAX_LINE_LEN: usize = 1024;
 /// The maximum length in bytes of a text that a line announces.
 pub const MAX_TEXT_LEN: u64 = 16_777_216;
 
-/// The purpose of a text that a line announces.
+/// The use of a text that a line announces.
 #[derive(Clone, Copy, Debug, PartialEq, Eq)]
 pub enum Purpose {
-    /// An instance, to start over with.
+    /// An instance in this format, with which the session starts over.
     Load { format: Format, seed: u64 },
-    /// A solution, whose plan is adopted.
+    /// A solution, whose plan becomes the incumbent.
     Adopt,
 }
 
@@ -35,37 +36,38 @@ pub enum Purpose {
 pub enum ParsedCommand {
     /// The line has no word.
     Nothing,
+    /// The line is not a command.
     BadLine,
     /// A bad line whose first word is `load` or `adopt`. The length of its text is unknown, so serving ends.
     BadText,
-    /// A line that announces a text, with a seed or a length outside its limits. Serving ends.
+    /// A line that announces a text, but has a seed or a length outside its limits. Serving ends.
     TextRange,
     /// The next `len` bytes are a text.
     Text { purpose: Purpose, len: u32 },
-    /// One operation that is not `Load` and makes no steps.
+    /// A command with one operation that is neither `Load` nor `Adopt` and makes no steps.
     Plain(Command),
-    /// A command with a number that its field can't hold. This refusal is the answer, unless the session is
+    /// A command with a number that its field can't hold. The answer is this refusal, unless the session is
     /// broken or has no instance.
     Refused(Refusal),
-    /// A command that makes steps of the search, of annealing or of looking for fewer vehicles, or sets the
-    /// pins of `freeze`.
+    /// A command that makes steps of the search, of annealing or for fewer vehicles, or sets the pins of
+    /// `freeze`.
     Steps(StepRequest),
     Print,
-    /// Prints the store's problem in the format of an instance.
+    /// Prints the current problem as an instance.
     PrintInstance,
     Show,
     /// A question about the plan.
     Ask(Question),
-    /// Prints the number that the next order gets.
+    /// Prints the number that the next request gets.
     Next,
     /// Prints the list of commands.
     Help,
 }
 
 /// Parses a line, given without its line end. Takes no memory.
-#[tactic(auto, unfolding(crate::specs::Parsing::requested))]
+#[tactic(auto, unfolding(crate::specs::Parsing::parsed_line))]
 pub fn read_line(line: &[u8]) -> ParsedCommand
-    ensures { result ≡ requested line.now }
+    ensures { result ≡ parsed_line line.now }
 {
     let mut words = Words::new(line);
     if line.len() <= MAX_LINE_LEN {
@@ -163,7 +165,7 @@ fn load_with(format: Option<Format>, fields: Option<Fields>) -> ParsedCommand
 }
 
 fn load_within(format: Format, seed: Option<u64>, len: Option<u64>) -> ParsedCommand
-    ensures { result ≡ load_within format seed (below 16777217 len) }
+    ensures { result ≡ load_within format seed (below (MAX_TEXT_LEN + 1) len) }
 {
     match seed {
         Some(seed) => text_within(Purpose::Load { format, seed }, len),
@@ -185,7 +187,7 @@ fn adopt_with(fields: Option<Fields>) -> ParsedCommand
 }
 
 fn text_within(purpose: Purpose, len: Option<u64>) -> ParsedCommand
-    ensures { result ≡ text_within purpose (below 16777217 len) }
+    ensures { result ≡ text_within purpose (below (MAX_TEXT_LEN + 1) len) }
 {
     match len {
         Some(len) if len <= MAX_TEXT_LEN => ParsedCommand::Text {

@@ -26,12 +26,12 @@ pub enum Question {
     Timetable,
     /// The timetable of this vehicle, counted from 1.
     VehicleTimetable(u32),
-    /// The reason why the request with this stop is at its place, or in no route.
+    /// The place and time at which the request with this stop is served, or the reason why it is in no route.
     Why(u32),
 }
 
-/// Returns why a question is refused: `Range` for a vehicle outside the fleet, `NoSuchRequest` for a stop that
-/// no request has.
+/// Returns the refusal of a question, if it is refused: `Range` for a vehicle outside the fleet, `NoSuchRequest`
+/// for a stop that no request has.
 pub fn question_refusal(job: &Job, question: Question) -> Option<Refusal>
     ensures { result ≡ question_refusal job.now question }
 {
@@ -117,7 +117,8 @@ fn one_vehicle_timetable(
     vehicle_timetable(alloc, problem, vehicle, route, Form::Columns)
 }
 
-// Returns why the request with this stop is at its place. The text is empty if no request has the stop.
+// Returns where and when the request with this stop is served, or why it is in no route. The text is empty if no
+// request has the stop.
 fn explanation(
     alloc: Global,
     problem: &Problem,

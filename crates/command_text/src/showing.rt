@@ -1,5 +1,6 @@
 //! The answers to `show`, `print` and `instance`.
 ghost use Rattle.std.specs.Prelude.{◌≡◌, ◌<◌, ◌≤◌, ◌*◌, ◌^◌, ◌++◌, [], true, false, IfOk, OnOk, IsErrOf, IsOkUnless, codes, decimal, string_bytes};
+ghost use Rattle.plan_types.specs.declared.limits.TheConstants.{MAX_STEPS};
 ghost use Rattle.route_sched.specs.Cost.{cost_of, unplanned_count};
 ghost use Rattle.instance_text.specs.Formats.{has_format};
 ghost use Rattle.instance_text.specs.Texts.{instance_text};
@@ -11,7 +12,6 @@ ghost use Rattle.std.specs.List.{flat_map};
 ghost use Rattle.command_text.specs.Answers.{cost_text, line};
 ghost use Rattle.command_text.specs.Showing.{counts_text, list_text, lists_text, print_text, show_text, solution_of, unplanned_text, work_text};
 
-use crate::answers::cost;
 use command_core::{Job, unplanned_names};
 use instance_text::{WriteFault, write_instance};
 use itoa::Buffer;
@@ -73,7 +73,7 @@ impl Text {
         self.put(buffer.format(n))
     }
 
-    // Appends a word, a blank and a number.
+    // Appends a name, which ends with a space, and a number.
     fn put_named(&mut self, name: &str, n: u64) -> Result<(), OutOfMemory>
         ensures { OnOk result (self.new ≡ self.old ++ (name.now ++ decimal n)) }
     {
@@ -97,7 +97,7 @@ impl Text {
         self.put("\n")
     }
 
-    // Appends each stop after a blank.
+    // Appends a space and the number of each stop.
     fn put_stops(&mut self, stops: &[u32]) -> Result<(), OutOfMemory>
         ensures { OnOk result (self.new ≡ self.old ++ customers_text stops.now) }
     {
@@ -151,9 +151,10 @@ impl Text {
         self.put("\n")
     }
 
-    // Appends 16 times this number of steps. The product may be 2^64.
+    // Appends 16 times this number of steps: the position of the next step's random words. The product may be
+    // 2^64.
     fn put_place(&mut self, steps: u64) -> Result<(), OutOfMemory>
-        requires { steps ≤ 2 ^ 60 }
+        requires { steps ≤ MAX_STEPS }
         ensures { OnOk result (self.new ≡ self.old ++ decimal (16 * steps)) }
     {
         let mut buffer = Buffer::new();
@@ -172,7 +173,7 @@ impl Text {
 }
 
 /// Returns the lines of `show`: numbers, pins, routes, unplanned requests and costs. Takes linear time, except
-/// for `plan_cost`, which searches for the pickup of each delivery.
+/// that `plan_cost` searches the routes for the pickup of each delivery.
 pub fn show(alloc: Global, job: &Job) -> Result<Text, OutOfMemory>
     ensures { IfOk result (λ text. text ≡ show_text job.now) }
 {
@@ -182,9 +183,17 @@ pub fn show(alloc: Global, job: &Job) -> Result<Text, OutOfMemory>
     text.put_lists("pin", job.pins.routes.as_slice())?;
     text.put_lists("vehicle", job.plan.routes.as_slice())?;
     text.put_unplanned(unplanned.as_slice())?;
-    text.put_cost("cost ", cost(job))?;
+    text.put_cost("cost ", incumbent_cost(job))?;
     text.put_work(job)?;
     Ok(text)
+}
+
+// Returns the cost of the incumbent.
+fn incumbent_cost(job: &Job) -> Cost
+    ensures { result ≡ cost_of job.now.problem job.now.plan }
+{
+    passing_is_local();
+    plan_cost(&job.problem, &job.plan)
 }
 
 // Returns the cost of the working plan.
@@ -195,14 +204,14 @@ fn work_cost(job: &Job) -> Cost
     plan_cost(&job.problem, &job.work)
 }
 
-/// Returns the solution's text, as `sol_text` writes it.
+/// Returns the text of the plan as a solution, as `sol_text` writes it.
 ///
 /// # Errors
 ///
 /// `Unplanned` if a request is in no route, then `OutOfMemory`.
 pub fn print(alloc: Global, job: &Job) -> Result<Text, WriteSolFault>
     ensures text { IfOk result (λ text. text ≡ print_text job.now) }
-    // The text reads back as this solution.
+    // The text reads back as the used routes of the plan, with their distance.
     ensures spells { IfOk result (λ text. Spells text (solution_of job.now)) }
     ensures unplanned { let n = unplanned_count job.now.problem job.now.plan in 0 < n
         → IsErrOf result (write.Unplanned n) }
@@ -216,11 +225,11 @@ pub fn print(alloc: Global, job: &Job) -> Result<Text, WriteSolFault>
     }
 }
 
-/// Returns the problem as an instance's text, as `instance_text` writes it.
+/// Returns the text of the problem as an instance, as `instance_text` writes it.
 ///
 /// # Errors
 ///
-/// `NoFormat` if no format can express it, then `OutOfMemory`.
+/// `NoFormat` if no format can express the problem, then `OutOfMemory`.
 pub fn print_instance(alloc: Global, job: &Job) -> Result<Text, WriteFault>
     ensures text { IfOk result (λ text. text ≡ instance_text job.now.problem) }
     ensures no_format { has_format job.now.problem ≡ false

@@ -1,4 +1,4 @@
-//! The commands that announce no text: their names, and their meaning with their numbers.
+//! The names of the commands, and the meaning of the commands that announce no text, with their numbers.
 ghost use Rattle.std.specs.Prelude.{◌≡◌, bytes_eq, map};
 ghost use Rattle.command_text.specs.Parsing.{add1_of, add_of, anneal_of, parse_no_numbers, count_of, parse_two_numbers, freeze_of, pin_of, plain_or, reach_of, reduce_of, search_of, parse_one_number, parse_spot, spot_of, parse_two_spots, stages_of, steps_or, verb_among, verb_named};
 
@@ -9,7 +9,7 @@ use crate::steps::StepRequest;
 use command_core::{Command, MAX_STEPS, Refusal, Spot};
 use plan_types::limits::{MAX_REQUESTED_STEPS, MAX_TIME};
 
-/// The first word of a command.
+/// The first word of a command, which names it.
 #[derive(Clone, Copy)]
 pub(crate) enum Verb {
     Load,
@@ -36,7 +36,7 @@ pub(crate) enum Verb {
     Help,
 }
 
-/// The commands by name.
+/// The commands with their names.
 const VERBS: [(&[u8], Verb); 22] = [
     (b"load", Verb::Load),
     (b"adopt", Verb::Adopt),
@@ -62,14 +62,14 @@ const VERBS: [(&[u8], Verb); 22] = [
     (b"help", Verb::Help),
 ];
 
-/// Returns the command that a word names.
+/// Returns the command with this name.
 pub(crate) fn verb_named(word: &[u8]) -> Option<Verb>
     ensures { result ≡ verb_named word.now }
 {
     verb_among(&VERBS, word)
 }
 
-// Returns the command that the word names in this table.
+// Returns the command with this name in the table.
 fn verb_among(verbs: &[(&[u8], Verb)], word: &[u8]) -> Option<Verb>
     ensures { result ≡ verb_among (map (λ named. (named.0.now, named.1)) verbs.now) word.now }
 {
@@ -81,7 +81,7 @@ fn verb_among(verbs: &[(&[u8], Verb)], word: &[u8]) -> Option<Verb>
     None
 }
 
-/// Returns whether a word is this name.
+/// Returns whether a word is equal to a name.
 pub(crate) fn is_word(word: &[u8], name: &[u8]) -> bool
     ensures { result ≡ bytes_eq name.now word.now }
 {
@@ -184,7 +184,7 @@ fn plain_or(refusal: Refusal, command: Option<Command>) -> ParsedCommand
     }
 }
 
-/// Returns the spot X Y E L S, if each number fits its field.
+/// Returns the spot X Y E L S, or `None` if a number does not fit its field.
 pub(crate) fn spot_of(
     x: &Field,
     y: &Field,

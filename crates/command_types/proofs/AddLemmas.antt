@@ -60,11 +60,11 @@ module _ (fresh : NewNumbersAreFree) (p : Instance) (r : Request) (valid : IsIns
   pub new_problem : PutKeepsProblemValid → IsRequest r → IsInstance (with_request p r)
   new_problem put is = put p r valid is (fresh p r valid next)
 
-  pub same_at_live : PutKeepsOthers → StopsAreBelowNext → Agree p (with_request p r) (IsKnownStop p)
-  same_at_live others below = record {
+  pub same_at_known : PutKeepsOthers → StopsAreBelowNext → Agree p (with_request p r) (IsKnownStop p)
+  same_at_known others below = record {
     kind = refl;
     depot = refl;
     capacity = refl;
     fleet = refl;
-    same = λ n live. others p r n valid (fresh p r valid next) (none_at p r n next (below p n valid live));
+    same = λ n known. others p r n valid (fresh p r valid next) (none_at p r n next (below p n valid known));
   }

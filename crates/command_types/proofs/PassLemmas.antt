@@ -12,7 +12,7 @@ use Rattle.plan_audit.specs.Locality.{FeasibilityIsLocal, PassingIsLocal, PlansA
 
 -- The parts of the test of a plan
 pub record Parts (p : Instance) (pins routes : List (List ℕ)) : Type 0 where
-  pub live : list_all (λ n. is_some (stop_at p n)) (concat routes) ≡ true
+  pub known : list_all (λ n. is_some (stop_at p n)) (concat routes) ≡ true
   pub distinct : are_distinct (concat routes) ≡ true
   pub fleet : length routes ≡ p.fleet
   pub feasible : list_all (feasible_alone p) routes ≡ true
@@ -25,21 +25,21 @@ parts_of p pins routes good =
     let b = and_parts (list_all (λ n. is_some (stop_at p n)) (concat routes)) (are_distinct (concat routes)) a.0 in
     let c = and_parts (eqb (length routes) p.fleet) _ a.1 in
     let d = and_parts (list_all (feasible_alone p) routes) (begin_with_pins routes pins) c.1 in
-    record { live = b.0; distinct = b.1; fleet = eqb-true (length routes) p.fleet c.0; feasible = d.0; pinned = d.1 }
+    record { known = b.0; distinct = b.1; fleet = eqb-true (length routes) p.fleet c.0; feasible = d.0; pinned = d.1 }
 
 pub from_parts : (p : Instance) (pins routes : List (List ℕ)) → Parts p pins routes → passes p pins routes ≡ true
 unfolding passes
 from_parts p pins routes parts =
-    and_from (are_distinct_stops p (concat routes)) _ (and_from (list_all (λ n. is_some (stop_at p n)) (concat routes)) (are_distinct (concat routes)) (parts.live) (parts.distinct))
+    and_from (are_distinct_stops p (concat routes)) _ (and_from (list_all (λ n. is_some (stop_at p n)) (concat routes)) (are_distinct (concat routes)) (parts.known) (parts.distinct))
     (and_from (eqb (length routes) p.fleet) _ (eq-eqb (length routes) p.fleet (parts.fleet))
     (and_from (list_all (feasible_alone p) routes) (begin_with_pins routes pins) (parts.feasible) (parts.pinned)))
 
 -- Routes of a plan that passes have current stops
-pub routes_live : PassingIsLocal → PlansAreDisjointRoutes → (p : Instance) (pins routes : List (List ℕ)) → passes p pins routes ≡ true → AllByRecursion (AreDistinctStops p) routes
-routes_live local plans p pins routes good = recursion_from_All (AreDistinctStops p) routes (((plans p routes).0 (((local p pins routes).0 good).plan)).0)
+pub routes_known : PassingIsLocal → PlansAreDisjointRoutes → (p : Instance) (pins routes : List (List ℕ)) → passes p pins routes ≡ true → AllByRecursion (AreDistinctStops p) routes
+routes_known local plans p pins routes good = recursion_from_All (AreDistinctStops p) routes (((plans p routes).0 (((local p pins routes).0 good).plan)).0)
 
-pub pins_live : PinsAreDistinctStops → (p : Instance) (pins routes : List (List ℕ)) → passes p pins routes ≡ true → AllByRecursion (AreDistinctStops p) pins
-pins_live law p pins routes good = recursion_from_All (AreDistinctStops p) pins (law p pins routes good)
+pub pins_known : PinsAreDistinctStops → (p : Instance) (pins routes : List (List ℕ)) → passes p pins routes ≡ true → AllByRecursion (AreDistinctStops p) pins
+pins_known law p pins routes good = recursion_from_All (AreDistinctStops p) pins (law p pins routes good)
 
 -- The two problems agree on every stop that has the property P
 pub record Agree (p q : Instance) (P : ℕ → Type 0) : Type 0 where
@@ -67,19 +67,19 @@ module _ (p q : Instance) (P : ℕ → Type 0) (agree : Agree p q P) where
   all_feasible_same law [] all = refl
   all_feasible_same law (l ∷ lists) all = ap (λ b. b && list_all (feasible_alone p) lists) (feasible_same law l all.0) ∙ ap (λ b. feasible_alone q l && b) (all_feasible_same law lists all.1)
 
-  pub live_same : (ns : List ℕ) → AllByRecursion P ns → list_all (λ n. is_some (stop_at p n)) ns ≡ list_all (λ n. is_some (stop_at q n)) ns
-  live_same [] all = refl
-  live_same (n ∷ ns) all =
+  pub known_same : (ns : List ℕ) → AllByRecursion P ns → list_all (λ n. is_some (stop_at p n)) ns ≡ list_all (λ n. is_some (stop_at q n)) ns
+  known_same [] all = refl
+  known_same (n ∷ ns) all =
       let same = (agree.same) n all.0 in
-      ap (λ o. is_some o && list_all (λ n. is_some (stop_at p n)) ns) (sym (same.stop)) ∙ ap (λ b. is_some (stop_at q n) && b) (live_same ns all.1)
+      ap (λ o. is_some o && list_all (λ n. is_some (stop_at p n)) ns) (sym (same.stop)) ∙ ap (λ b. is_some (stop_at q n) && b) (known_same ns all.1)
 
-pub numbers_live : (p : Instance) (lists : List (List ℕ)) → AllByRecursion (AreDistinctStops p) lists → AllByRecursion (AllByRecursion (IsKnownStop p)) lists
-numbers_live p [] all = tt
-numbers_live p (l ∷ lists) all = (let once = all.0 in recursion_from_All (IsKnownStop p) l (once.live), numbers_live p lists all.1)
+pub numbers_known : (p : Instance) (lists : List (List ℕ)) → AllByRecursion (AreDistinctStops p) lists → AllByRecursion (AllByRecursion (IsKnownStop p)) lists
+numbers_known p [] all = tt
+numbers_known p (l ∷ lists) all = (let once = all.0 in recursion_from_All (IsKnownStop p) l (once.live), numbers_known p lists all.1)
 
-pub live_all : (p : Instance) (ns : List ℕ) → list_all (λ n. is_some (stop_at p n)) ns ≡ true → AllByRecursion (IsKnownStop p) ns
-live_all p [] test = tt
-live_all p (n ∷ ns) test = let both = and_parts (is_some (stop_at p n)) (list_all (λ n. is_some (stop_at p n)) ns) test in (both.0, live_all p ns both.1)
+pub all_known : (p : Instance) (ns : List ℕ) → list_all (λ n. is_some (stop_at p n)) ns ≡ true → AllByRecursion (IsKnownStop p) ns
+all_known p [] test = tt
+all_known p (n ∷ ns) test = let both = and_parts (is_some (stop_at p n)) (list_all (λ n. is_some (stop_at p n)) ns) test in (both.0, all_known p ns both.1)
 
 -- If two problems agree on all current stops, a plan that passes in one passes in the other
 pub passes_same : FeasibilityIsLocal → PassingIsLocal → PlansAreDisjointRoutes → (p q : Instance) (pins routes : List (List ℕ)) → Agree p q (IsKnownStop p)
@@ -87,9 +87,9 @@ pub passes_same : FeasibilityIsLocal → PassingIsLocal → PlansAreDisjointRout
 passes_same law local plans p q pins routes agree good =
     let parts = parts_of p pins routes good in
     from_parts q pins routes (record {
-      live = sym (live_same p q (IsKnownStop p) agree (concat routes) (live_all p (concat routes) (parts.live))) ∙ parts.live;
+      known = sym (known_same p q (IsKnownStop p) agree (concat routes) (all_known p (concat routes) (parts.known))) ∙ parts.known;
       distinct = parts.distinct;
       fleet = parts.fleet ∙ agree.fleet;
-      feasible = sym (all_feasible_same p q (IsKnownStop p) agree law routes (numbers_live p routes (routes_live local plans p pins routes good))) ∙ parts.feasible;
+      feasible = sym (all_feasible_same p q (IsKnownStop p) agree law routes (numbers_known p routes (routes_known local plans p pins routes good))) ∙ parts.feasible;
       pinned = parts.pinned;
     })

@@ -3,6 +3,7 @@
 use Rattle.std.specs.Prelude.{ℕ, ◌+◌, ◌<◌, ◌^◌, nat_le, ◌&&◌, ◌||◌, Bool, true, false, List, [], ◌∷◌, ⊤}
 use Rattle.plan_types.specs.Instance.{IsInstance}
 use Rattle.plan_types.specs.declared.limits.TheConstants.{MAX_DEVIATION}
+use Rattle.command_types.specs.declared.limits.TheConstants.{MAX_SEARCH_STEPS}
 use Rattle.command_types.specs.Job.{JobValue}
 use Rattle.command_types.specs.AddedRequests.{is_spot, is_demand}
 use Rattle.command_types.specs.declared.commands.Command.{Command}
@@ -90,6 +91,6 @@ is_recorded _ = false
 abbrev pub fits_record : Command → Bool
 fits_record (Add q a b) = is_demand q && (is_spot a && is_spot b)
 fits_record (Add1 q s) = is_demand q && is_spot s
-fits_record (Search count) = nat_le 1 count && nat_le count 256
+fits_record (Search count) = nat_le 1 count && nat_le count MAX_SEARCH_STEPS
 fits_record (Deviation d) = nat_le d MAX_DEVIATION
 fits_record _ = true

@@ -3,7 +3,7 @@ use Rattle.std.specs.Prelude.{◌≡◌, ℕ, ◌<◌, ◌≤◌, ◌^◌, true,
 use Rattle.std.specs.List.{list_all}
 use Rattle.plan_types.specs.Instance.{Instance, IsInstance}
 use Rattle.plan_audit.specs.Passes.{feasible_alone, passes}
-use Rattle.plan_types.specs.declared.limits.TheConstants.{MAX_DEVIATION}
+use Rattle.plan_types.specs.declared.limits.TheConstants.{MAX_DEVIATION, MAX_STEPS}
 
 -- Pins, plan and working plan have a list for each vehicle
 pub record JobValue : Type 0 where
@@ -25,4 +25,4 @@ pub record IsJob (j : JobValue) : Type 0 where
   pub work : passes j.problem j.pins j.work ≡ true
   pub deviation : j.deviation ≤ MAX_DEVIATION
   pub seed : j.seed < 2 ^ 64
-  pub steps : j.steps ≤ 2 ^ 60
+  pub steps : j.steps ≤ MAX_STEPS

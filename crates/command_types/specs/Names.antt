@@ -10,8 +10,6 @@ use Rattle.command_types.specs.declared.refusals.Refusal.TheVariants.{
   NotARoute,
   NumbersSpent,
   StepsSpent,
-  NoTimes,
-  NoFormat,
   NotAPlan,
   Dearer,
   OutOfMemory,
@@ -26,8 +24,6 @@ refusal_name NoSuchPlace = codes "NoSuchPlace"
 refusal_name NotARoute = codes "NotARoute"
 refusal_name NumbersSpent = codes "NumbersSpent"
 refusal_name StepsSpent = codes "StepsSpent"
-refusal_name NoTimes = codes "NoTimes"
-refusal_name NoFormat = codes "NoFormat"
 refusal_name NotAPlan = codes "NotAPlan"
 refusal_name Dearer = codes "Dearer"
 refusal_name OutOfMemory = codes "OutOfMemory"

@@ -43,18 +43,18 @@ pub enum Command {
     Unpin(u32),
     /// Inserts each unplanned request at its best place, if it has one.
     Build,
-    /// Makes this many steps of the search, 1..=256.
+    /// Makes this many steps of the search, 1..=`MAX_SEARCH_STEPS`.
     Search(u16),
     /// Changes nothing. A store writes a snapshot.
     Checkpoint,
     /// Limits by how much the distance of the working plan may exceed the incumbent's, 0..=`MAX_DEVIATION`. In
     /// an annealing step the limit is relative to the previous working plan.
     Deviation(u32),
-    /// Makes this many annealing steps, 1..=65,536. A store writes a snapshot.
+    /// Makes this many annealing steps, 1..=`MAX_ANNEAL_STEPS`. A store writes a snapshot.
     Anneal(u32),
-    /// Makes this many steps, 1..=524,288, starting at the incumbent. If vehicles count in the cost, the first
-    /// steps are attempts to use fewer vehicles, or one attempt to insert the requests that are left out. The
-    /// remaining steps anneal. A store writes a snapshot.
+    /// Makes this many steps, 1..=`MAX_REDUCE_STEPS`, starting at the incumbent. If vehicles count in the cost,
+    /// the first steps are attempts to use fewer vehicles, or one attempt to insert the requests that are left
+    /// out. The remaining steps anneal. A store writes a snapshot.
     Reduce(u32),
     /// Makes this plan the incumbent. It must have a route for each vehicle and may not cost more than the
     /// incumbent. A store writes a snapshot.

@@ -24,9 +24,9 @@ mod states;
 
 pub use commands::{Command, Spot};
 pub use limits::{
-    MAX_ANNEAL_STEPS, MAX_REDUCE_STEPS, MAX_SEARCH_STEPS, MAX_STEPS, is_coordinate, is_demand,
-    is_spot,
+    MAX_ANNEAL_STEPS, MAX_REDUCE_STEPS, MAX_SEARCH_STEPS, is_coordinate, is_demand, is_spot,
 };
 pub use lists::{JobLists, copies, empty_lists};
+pub use plan_types::limits::MAX_STEPS;
 pub use refusals::Refusal;
 pub use states::{Job, State};

@@ -5,8 +5,6 @@ ghost use Rattle.command_types.specs.AddedRequests.{is_coordinate, is_spot, is_d
 use crate::commands::Spot;
 use plan_types::limits::{MAX_COORDINATE, MAX_DEMAND, MAX_SERVICE, MAX_TIME};
 
-/// The greatest number of steps that a state may have made.
-pub const MAX_STEPS: u64 = 1 << 60;
 /// The greatest number of search steps of one command; the smallest is 1.
 pub const MAX_SEARCH_STEPS: u16 = 256;
 /// The greatest number of annealing steps of one command; the smallest is 1.

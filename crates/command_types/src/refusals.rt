@@ -2,37 +2,31 @@
 ghost use Rattle.std.specs.Prelude.{◌≡◌};
 
 use std::alloc::AllocError;
-use thiserror::Error;
 
 /// The reason why a command is refused. If several apply, the first one in this order is returned.
 /// `OutOfMemory` is the last, since memory is allocated only after all other checks.
-#[derive(Clone, Copy, Debug, PartialEq, Eq, Error)]
+#[derive(Clone, Copy, Debug, PartialEq, Eq)]
 pub enum Refusal {
-    #[error("no problem is loaded")]
+    /// No problem is loaded.
     NoInstance,
-    #[error("a field is outside its limits")]
+    /// A field is outside its limits.
     Range,
-    #[error("there is no request of this name")]
+    /// No request has this name.
     NoSuchRequest,
-    #[error("a stop of the request is pinned")]
+    /// A stop of the request is pinned.
     Pinned,
-    #[error("there is no such vehicle, or its route is shorter")]
+    /// There is no such vehicle, or its route is shorter.
     NoSuchPlace,
-    #[error("these stops alone are no feasible route")]
+    /// These stops alone are not a feasible route.
     NotARoute,
-    #[error("the stop numbers are spent")]
+    /// Too few stop numbers are left.
     NumbersSpent,
-    #[error("the search steps are spent")]
+    /// The state would have made more than `MAX_STEPS` steps.
     StepsSpent,
-    #[error("the instance has no times")]
-    NoTimes,
-    #[error("the format of its kind can't say these requests")]
-    NoFormat,
-    #[error("the plan breaks a rule, or does not keep the pins")]
+    /// The plan breaks a rule, or does not keep the pins.
     NotAPlan,
-    #[error("the plan costs more than the incumbent")]
+    /// The plan costs more than the incumbent.
     Dearer,
-    #[error("out of memory")]
     OutOfMemory,
 }
 
@@ -52,8 +46,6 @@ impl Refusal {
             Refusal::NotARoute => "NotARoute",
             Refusal::NumbersSpent => "NumbersSpent",
             Refusal::StepsSpent => "StepsSpent",
-            Refusal::NoTimes => "NoTimes",
-            Refusal::NoFormat => "NoFormat",
             Refusal::NotAPlan => "NotAPlan",
             Refusal::Dearer => "Dearer",
             Refusal::OutOfMemory => "OutOfMemory",

@@ -24,8 +24,8 @@ pub struct Job {
     /// an annealing step it is relative to the previous working plan.
     pub deviation: u32,
     pub seed: u64,
-    /// The number of steps made, of the search and of annealing, 0..=2^60. The next step takes its random words
-    /// from position `16 * steps` on.
+    /// The number of steps made, of the search and of annealing, 0..=`MAX_STEPS`. The next step takes its random
+    /// words from position `16 * steps` on.
     pub steps: u64,
 }
 

@@ -4,7 +4,7 @@ use crate::examples::{Example, bytes_of, commands_of, invalid_data, or_invalid_d
 use crate::tables::print_row;
 use checkpoint::{SECTORS, check_integrity, format};
 use command_core::Command;
-use recover::{Denial, Opened, Reply, Run, Session};
+use recover::{Denial, OpenedStore, Reply, Run, Session};
 use sector_disk::MemDevice;
 use std::alloc::{AllocError, Global};
 use std::io;
@@ -66,7 +66,7 @@ fn print_table<R: Print>(rt: &R, alloc: Global, table: &Table) -> io::Result<()>
     Ok(())
 }
 
-// Returns the row of the crashes after `calls` finished calls.
+// Returns the row for the crashes after `calls` finished calls.
 fn row_of(alloc: Global, table: &Table, calls: u64) -> io::Result<[u64; 6]> {
     let states = states_of(alloc, table.example)?;
     Ok(tally_of(alloc, table, calls, &states)?.row())
@@ -90,7 +90,7 @@ pub(crate) fn fresh(alloc: Global) -> io::Result<MemDevice> {
 }
 
 /// Opens the store on the device.
-pub(crate) fn open(alloc: Global, device: MemDevice) -> io::Result<Opened<MemDevice>> {
+pub(crate) fn open(alloc: Global, device: MemDevice) -> io::Result<OpenedStore<MemDevice>> {
     or_invalid_data(Session::open(alloc, device))
 }
 
@@ -127,7 +127,7 @@ pub(crate) fn choices_of(alloc: Global, sectors: &[usize], choice: u32) -> io::R
 /// The results of a run that crashed.
 #[derive(Drop)]
 pub(crate) struct RunResult {
-    /// The number of commands answered Ok, DeviceFault, and Broken.
+    /// The numbers of commands that were answered Ok, DeviceFault, and Broken.
     pub acknowledged: u64,
     pub faults: u64,
     pub refused: u64,
@@ -161,7 +161,7 @@ impl RunResult {
     fn with(
         alloc: Global,
         run: &Result<Run, AllocError>,
-        opened: &io::Result<Opened<MemDevice>>,
+        opened: &io::Result<OpenedStore<MemDevice>>,
         has_warning: io::Result<bool>,
     ) -> io::Result<RunResult> {
         match (run, opened) {
@@ -173,7 +173,7 @@ impl RunResult {
     fn found(
         alloc: Global,
         replies: &[Reply],
-        opened: &Opened<MemDevice>,
+        opened: &OpenedStore<MemDevice>,
         has_warning: bool,
     ) -> io::Result<RunResult> {
         Ok(RunResult {
@@ -216,8 +216,8 @@ fn is_state(states: &[Vec<u8>], number: u64, bytes: &[u8]) -> bool {
     }
 }
 
-// Runs the example over a new store. The device fails once the commands have finished `calls` calls, and then
-// it crashes.
+// Runs the example over a new store. Once the commands have finished `calls` calls, every call fails, and then
+// the device crashes.
 fn crashed(alloc: Global, table: &Table, calls: u64, choice: u32) -> io::Result<RunResult> {
     let choices = choices_of(alloc, table.written, choice)?;
     crashed_with(alloc, table, calls, &choices)
@@ -237,8 +237,8 @@ fn crashed_with(
 fn fused(alloc: Global, calls: u64) -> io::Result<Session<MemDevice>> {
     let mut device = fresh(alloc)?;
     if calls == 0 {
-        // With no call left the reads of opening would fail as well. Opening is three calls: a sync and two
-        // reads.
+        // If no call were left after the sync of opening, the reads of opening would fail, too. Opening is three
+        // calls: a sync and two reads.
         device.fail_once(3);
     } else {
         device.fuse(calls.saturating_add(1));
@@ -250,8 +250,8 @@ fn fused(alloc: Global, calls: u64) -> io::Result<Session<MemDevice>> {
 #[derive(Default, Clone, Copy)]
 struct Tally {
     acknowledged: u64,
-    /// The stores that opened with the state of the acknowledged commands, with that of one more command, and
-    /// with another state.
+    /// The numbers of stores that opened with the state of the acknowledged commands, with that of one more
+    /// command, and with another state.
     same: u64,
     one_more: u64,
     other: u64,

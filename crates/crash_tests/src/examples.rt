@@ -34,7 +34,7 @@ pub(crate) enum Example {
     WideLoad,
     /// A load whose snapshot takes three sectors, over a store with another load.
     SecondLoad,
-    /// The commands whose state the old store of an upgrade has.
+    /// The commands that lead to the state of the old store in the tests of upgrades.
     Old,
 }
 
@@ -74,13 +74,12 @@ const SECOND_LOAD: &[Step] = &[Step::LoadOne, Step::LoadPairs];
 
 const OLD: &[Step] = &[Step::LoadOne, Step::Build, Step::Search(256)];
 
-/// Returns the error for what should not happen: a state that is refused, or a store that can't be created or
-/// opened.
+/// Returns the error for anything that should not happen, for example a store that can't be created or opened.
 pub(crate) fn invalid_data() -> io::Error {
     io::ErrorKind::InvalidData.into()
 }
 
-/// Returns the value of a result, or the error of `invalid_data` in place of its fault.
+/// Returns the value of a result, or replaces its fault by the error of `invalid_data`.
 pub(crate) fn or_invalid_data<T: Drop, F: Drop>(outcome: Result<T, F>) -> io::Result<T> {
     match outcome {
         Ok(value) => Ok(value),
@@ -120,12 +119,12 @@ fn added() -> Command {
     Command::Add1 { demand: 1, spot }
 }
 
-/// Returns the command that loads one customer; its least distance is 10.
+/// Returns the command that loads one customer. The least distance of a plan is 10.
 pub(crate) fn load_one(alloc: Global) -> io::Result<Command> {
     load_vrp(alloc, ONE)
 }
 
-/// Returns the command that loads three customers; their least distance is 30.
+/// Returns the command that loads three customers. The least distance of a plan is 30.
 pub(crate) fn load_three(alloc: Global) -> io::Result<Command> {
     load_vrp(alloc, THREE_CUSTOMERS)
 }
@@ -153,7 +152,7 @@ fn text_of_pairs(alloc: Global) -> io::Result<Vec<u8>> {
     Ok(text)
 }
 
-/// Returns the states before the commands of an example and after each, as bytes.
+/// Returns the states before the first command of an example and after each command, as bytes.
 pub(crate) fn states_of(alloc: Global, example: Example) -> io::Result<Vec<Vec<u8>>> {
     let mut states = Vec::new(alloc);
     add_states(alloc, &commands_of(alloc, example)?, &mut states)?;

@@ -9,7 +9,7 @@ use sector_disk::MemDevice;
 use std::alloc::Global;
 use std::io;
 
-/// Prints how the five commands end if one call fails, and the result of a build whose sync fails.
+/// Prints the results of the five commands if one call fails, and the result of a build whose sync fails.
 pub(crate) fn print_failures<R: Print>(rt: &R, alloc: Global) -> io::Result<()> {
     println!(rt;
         "five commands, by the call that fails once: openings; answered Ok, DeviceFault, Broken; the state of how many"
@@ -23,14 +23,14 @@ pub(crate) fn print_failures<R: Print>(rt: &R, alloc: Global) -> io::Result<()> 
     print_row(rt, 8, &settled(alloc)?)
 }
 
-// Returns the row for the five commands if this call of the device fails once. Reads count too: opening is a
-// sync and two reads, a snapshot four calls, a record two.
+// Returns the row for the five commands if this call of the device fails once. Reads count, too: opening makes a
+// sync and two reads, a snapshot makes four calls, and a record two.
 fn row_of(alloc: Global, call: u64) -> io::Result<[u64; 5]> {
     let (openings, ended) = ended_with_a_failed_call(alloc, call)?;
     Ok(numbers_of(openings, &ended, &states_of(alloc, Example::Five)?))
 }
 
-// Returns the number of times the store was opened, and how the five commands ended.
+// Returns the number of times the store was opened, and the result of the five commands.
 fn ended_with_a_failed_call(alloc: Global, call: u64) -> io::Result<(u64, RunResult)> {
     let commands = commands_of(alloc, Example::Five)?;
     let (openings, session) = opened_with_a_failed_call(alloc, call)?;
@@ -60,7 +60,7 @@ fn opened_with_a_failed_call(alloc: Global, call: u64) -> io::Result<(u64, Sessi
 }
 
 // Shows that opening makes a build durable whose sync failed. After a crash immediately after that opening, the
-// state still has the build, though the record was never synced before.
+// state still has the build, although its record was not synced before the opening.
 fn settled(alloc: Global) -> io::Result<[u64; 2]> {
     settled_among(alloc, &states_of(alloc, Example::Five)?)
 }
@@ -72,7 +72,7 @@ fn settled_among(alloc: Global, states: &[Vec<u8>]) -> io::Result<[u64; 2]> {
     Ok([first, second])
 }
 
-// Returns the index of the state that opening returns, and the device after the opening.
+// Opens the store. Returns the index of its state among these, and the device.
 fn opened_among(
     alloc: Global,
     device: MemDevice,
@@ -86,7 +86,7 @@ fn opened_among(
 fn built_without_a_sync(alloc: Global) -> io::Result<MemDevice> {
     let load = load_one(alloc)?;
     let mut device = fresh(alloc)?;
-    // Three calls of opening, four of the load, and the write of the record.
+    // Three calls of opening, four of the load, and the write of the record come before the sync.
     device.fail_once(8);
     built(alloc, device, load)
 }

@@ -1,6 +1,6 @@
-//! A plain reader of images. It follows the table of the store format sector by sector.
+//! A plain reader of images. It follows the table of the store format in `docs/FORMATS.md` sector by sector.
 
-use checkpoint::{Loaded, Place, StoreFault};
+use checkpoint::{Place, StoreContent, StoreFault};
 use command_core::{Command, State};
 use state_codec::{CodecFault, decode_record, decode_state};
 use std::alloc::Global;
@@ -27,7 +27,7 @@ fn number_in(bytes: &[u8]) -> u64 {
     number
 }
 
-// Returns sequence and length of one of the two headers, if it is valid.
+// Returns the sequence and the length of one of the two headers, if it is valid.
 fn header_of(image: &[u8], i: u32) -> Option<(u64, u64)> {
     let sector = sector_of(image, i);
     if image.len() < 4_326_400
@@ -63,7 +63,8 @@ fn record_of(image: &[u8], sequence: u64, index: u32) -> Option<Command> {
     decode_record(&sector_of_record(image, index), sequence, index)
 }
 
-// Returns the number of records of a sequence, and checks the sectors after them.
+// Returns the number of records of a sequence. Fails if a later record sector begins with this sequence or a
+// greater one.
 fn used_of(image: &[u8], sequence: u64) -> Result<u32, StoreFault> {
     let mut used = 0;
     for index in 0..256 {
@@ -92,7 +93,7 @@ fn journal_of(
     Ok(commands)
 }
 
-// Returns sequence and length of the latest valid header.
+// Returns the sequence and the length of the latest valid header.
 fn latest_header_of(image: &[u8]) -> Result<(u64, u64), StoreFault> {
     match (header_of(image, 0), header_of(image, 1)) {
         (Some(even), Some(odd)) => Ok(even.max(odd)),
@@ -104,7 +105,7 @@ fn latest_header_of(image: &[u8]) -> Result<(u64, u64), StoreFault> {
     }
 }
 
-// Decodes the state in the half for a sequence.
+// Decodes the state in the half that belongs to a sequence.
 fn state_of(alloc: Global, image: &[u8], sequence: u64, length: u64) -> Result<State, StoreFault> {
     let first = if sequence % 2 == 0 { 258 } else { 4354 };
     let mut snapshot = Vec::new(alloc);
@@ -118,13 +119,13 @@ fn state_of(alloc: Global, image: &[u8], sequence: u64, length: u64) -> Result<S
     }
 }
 
-/// Returns the content of the image, or the fault if it holds nothing.
-pub(crate) fn held(alloc: Global, image: &[u8]) -> Result<Loaded, StoreFault> {
+/// Returns the snapshot and the commands that the image holds, or the fault if it holds nothing.
+pub(crate) fn held(alloc: Global, image: &[u8]) -> Result<StoreContent, StoreFault> {
     let (sequence, length) = latest_header_of(image)?;
     let used = used_of(image, sequence)?;
     let commands = journal_of(alloc, image, sequence, used)?;
     let state = state_of(alloc, image, sequence, length)?;
-    Ok(Loaded {
+    Ok(StoreContent {
         state,
         commands,
         place: Place { sequence, used },

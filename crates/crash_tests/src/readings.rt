@@ -25,7 +25,7 @@ type SequenceAndUsed = (u64, u32);
 /// The places that images of the small run may have.
 const PLACES: [SequenceAndUsed; 6] = [(0, 0), (1, 0), (1, 1), (1, 2), (2, 0), (2, 1)];
 
-/// Prints how often both readers find each place.
+/// Prints what both readers find in the crash images of three runs.
 pub(crate) fn print_readings<R: Print>(rt: &R, alloc: Global) -> io::Result<()> {
     println!(rt;
         "the small run stopped, by finished calls: images that hold nothing, 1/0, 1/1, 1/2, 2/0, 2/1"
@@ -39,7 +39,7 @@ pub(crate) fn print_readings<R: Print>(rt: &R, alloc: Global) -> io::Result<()> 
     printed
 }
 
-// Prints the rows of stores with this state.
+// Prints the rows for a format and for a snapshot that crash, over stores with this state.
 fn print_wide_readings<R: Print>(rt: &R, alloc: Global, state: &State) -> io::Result<()> {
     println!(rt; "a format over a store stopped, by finished calls: images with nothing, others")?;
     for calls in 0..6 {
@@ -54,7 +54,7 @@ fn print_wide_readings<R: Print>(rt: &R, alloc: Global, state: &State) -> io::Re
     Ok(())
 }
 
-// Returns the state of 20 pairs.
+// Returns the state after loading 20 pairs.
 fn wide_state(alloc: Global) -> io::Result<State> {
     match commands_of(alloc, Example::WideLoad)?.as_slice() {
         [load] => applied(alloc, &State::Empty, load),
@@ -151,8 +151,8 @@ fn format_and_record<D: Sectors>(
     recorded(device, place, &Command::Build)
 }
 
-// Commits a snapshot over a store of the same state, crashes the device after `calls` finished calls, and
-// returns the place. The crash leaves the new content in every second sector.
+// Commits a snapshot over a store with this state and crashes the device after `calls` finished calls. Returns
+// the place of the store then. The crash leaves the new content in every second sector.
 fn crashed_snapshot(alloc: Global, state: &State, calls: u64) -> io::Result<SequenceAndUsed> {
     let choices = every_second(alloc)?;
     crash_snapshot(
@@ -190,7 +190,7 @@ fn every_second(alloc: Global) -> io::Result<Vec<u32>> {
     Ok(choices)
 }
 
-// Returns the place of the store by both readings, or an error if they differ.
+// Returns the place of the store, or an error if the two readers differ.
 fn agreed(alloc: Global, device: &mut MemDevice) -> io::Result<SequenceAndUsed> {
     let slow = read_with_plain_reader(alloc, device)?;
     agreed_with(&slow, &read_with_load_latest(alloc, device)?)
@@ -227,7 +227,7 @@ fn image_of(alloc: Global, device: &mut MemDevice) -> io::Result<Vec<u8>> {
     Ok(image)
 }
 
-/// The result of a reading.
+/// The result of one of the readers.
 #[derive(Drop)]
 struct Reading {
     held: SequenceAndUsed,
@@ -249,7 +249,7 @@ fn place_of_load(loaded: &Result<Loaded, StoreFault>) -> io::Result<SequenceAndU
     }
 }
 
-// Makes a format, two records, a snapshot of the empty state and one more record: 16 device calls.
+// Makes a format, two records, a snapshot of the empty state and one more record, in 16 device calls.
 fn small_run<D: Sectors>(alloc: Global, device: &mut D) -> Result<Place, StoreFault> {
     let place = formatted(alloc, device, &State::Empty)?;
     let place = recorded(device, place, &Command::Search(3))?;
@@ -258,7 +258,7 @@ fn small_run<D: Sectors>(alloc: Global, device: &mut D) -> Result<Place, StoreFa
     recorded(device, place, &Command::Build)
 }
 
-// Returns the place of a new store with this state.
+// Makes a store with this state and returns its place.
 fn formatted<D: Sectors>(alloc: Global, device: &mut D, state: &State) -> Result<Place, StoreFault>
     ensures place { IfOk result (λ place. place ≡ first_place) }
     ensures room { OnOk result (sectors_in version_2 ≤ D.len device.new) }
@@ -269,7 +269,7 @@ fn formatted<D: Sectors>(alloc: Global, device: &mut D, state: &State) -> Result
     Ok(place)
 }
 
-// Returns the place after one more record.
+// Commits one more record and returns the place after it.
 fn recorded<D: Sectors>(
     device: &mut D,
     place: Place,
@@ -282,7 +282,7 @@ fn recorded<D: Sectors>(
     commit_record(device, place, command)
 }
 
-// Returns the place after a snapshot of this state.
+// Commits a snapshot of this state and returns the place after it.
 fn saved<D: Sectors>(
     alloc: Global,
     device: &mut D,

@@ -1,4 +1,5 @@
-//! Random lists of rounds: each round has to leave a state that the fold over rounds allows.
+//! Random lists of rounds. A round opens a store, executes commands and may crash. The state that it leaves must
+//! be one that its answers allow.
 
 use crate::crashes::{fresh, opened_state};
 use crate::examples::{advance, applied, bytes_of, load_three, or_invalid_data};
@@ -21,7 +22,7 @@ struct Random {
 }
 
 impl Random {
-    /// Creates the generator of a round, from its list and its index there.
+    /// Creates the generator of a round, from the number of its list and its index there.
     fn of_round(list: u64, place: u64) -> Random {
         let mut random = Random {
             state: list.wrapping_mul(64).wrapping_add(place),
@@ -47,7 +48,7 @@ impl Random {
     }
 }
 
-// Returns a random command. Some are refused in the state that they meet.
+// Returns a random command. The state may refuse it.
 fn command_of(alloc: Global, random: &mut Random) -> io::Result<Command> {
     match random.below(12) {
         0 => load_three(alloc),
@@ -99,8 +100,8 @@ fn next_command(alloc: Global, random: &mut Random, is_load: bool) -> io::Result
     }
 }
 
-// Returns the crash of a round: three of four rounds crash, after any number of calls that their commands may
-// make, with any choice for each sector.
+// Returns the crash of a round, if it has one. On average three of four rounds crash, after 0 to 13 finished
+// calls, with a random choice from 0 to 3 for each sector.
 fn halt_of(alloc: Global, random: &mut Random) -> io::Result<Option<Halt>> {
     if random.below(4) == 0 {
         return Ok(None);
@@ -129,7 +130,7 @@ struct RoundResult {
     answers: Vec<Result<(), Denial>>,
 }
 
-// Executes a round, and opens the device to see the state that it left.
+// Executes a round, and opens the device again to see the state that the round left.
 fn run_round_and_open(
     alloc: Global,
     device: MemDevice,
@@ -163,7 +164,7 @@ enum Outcome {
     Without,
     /// The state with the command during which the device failed.
     With,
-    /// None of these, or an answer that the fold does not allow.
+    /// Any other state, or an answer that is not allowed.
     Other,
 }
 
@@ -202,7 +203,7 @@ fn outcome_of(
     }
 }
 
-// Applies the round's commands once more, by their answers, and returns the outcome.
+// Executes the commands of the round again, as far as their answers say so, and returns the outcome.
 fn repeated(
     alloc: Global,
     state: &mut State,
@@ -255,7 +256,7 @@ fn is_left_with(
     is_left
 }
 
-// Returns the number of rounds of a list, 1..=8.
+// Returns the number of rounds of a list, from 1 to 8.
 fn len_of(list: u64) -> u64 {
     u64::from(Random::of_round(list, 63).below(8)).saturating_add(1)
 }
@@ -263,7 +264,7 @@ fn len_of(list: u64) -> u64 {
 /// A store between two rounds.
 #[derive(Drop)]
 struct Store {
-    /// Its state, as bytes.
+    /// The state of the store, as bytes.
     state: Vec<u8>,
     device: MemDevice,
 }

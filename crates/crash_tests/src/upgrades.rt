@@ -4,7 +4,7 @@ use crate::crashes::{built, choices_of, fresh};
 use crate::examples::{Example, bytes_of, invalid_data, load_three, states_of};
 use crate::tables::{count, print_row};
 use checkpoint::{MIN_SECTORS, SECTORS, StoreFault};
-use recover::{Opened, Session, UpgradeFault, upgrade};
+use recover::{OpenedStore, Session, UpgradeFault, upgrade};
 use sector_disk::{MemDevice, Sectors};
 use std::alloc::Global;
 use std::io;
@@ -121,7 +121,7 @@ impl Outcome {
     }
 }
 
-// Returns the outcome of opening the device, if this is the expected state.
+// Opens the device. Returns the outcome, if `state` is the expected state.
 fn outcome_of(alloc: Global, device: MemDevice, state: &[u8]) -> io::Result<Outcome> {
     match Session::open(alloc, device) {
         Ok(opened) => {
@@ -141,7 +141,7 @@ fn outcome_of(alloc: Global, device: MemDevice, state: &[u8]) -> io::Result<Outc
 
 fn outcome_of_session(
     alloc: Global,
-    opened: &Opened<MemDevice>,
+    opened: &OpenedStore<MemDevice>,
     state: &[u8],
 ) -> io::Result<Outcome> {
     let bytes = bytes_of(alloc, opened.session.state())?;
@@ -152,12 +152,12 @@ fn outcome_of_session(
     }
 }
 
-// Returns whether the device has this state.
+// Returns whether the device opens with this state and replays no step.
 fn has_state(alloc: Global, device: MemDevice, state: &[u8]) -> io::Result<bool> {
     Ok(matches!(outcome_of(alloc, device, state)?, Outcome::State))
 }
 
-// Returns whether the old device still has this state: upgrades it once more.
+// Returns whether the old device still has this state, by upgrading it once more.
 fn has_old_state(alloc: Global, mut old: MemDevice, state: &[u8]) -> io::Result<bool> {
     let mut new = MemDevice::new(alloc, SECTORS)?;
     match upgrade_fault(alloc, &mut old, &mut new) {
@@ -171,8 +171,8 @@ fn upgrade_fault(alloc: Global, old: &mut MemDevice, new: &mut MemDevice) -> Opt
     upgrade(alloc, old, new).err()
 }
 
-// Returns the row of an upgrade that crashes after `calls` finished calls of the new device, over another
-// store, with each choice for the sectors that it writes.
+// Returns the row for upgrades that crash after `calls` finished calls of the new device, which holds another
+// store, with each choice for the sectors that an upgrade writes.
 fn row_of_crashes(alloc: Global, calls: u64, state: &[u8]) -> io::Result<[u64; 4]> {
     let mut row = [0; 4];
     for choice in 0..16 {

@@ -6,9 +6,9 @@ use Rattle.std.proofs.lemmas.List.{append-nil, length-append, length-drop, lengt
 use Rattle.std.proofs.Math.Seq.{take-append-add, drop-append-add}
 use Rattle.std.proofs.Math.ListN.{drop_of_length-le}
 use borrow.Rule.Slice.PartMut.{put_mid}
-use Rattle.file_disk.specs.declared.system_call.SystemCall.{SystemCall}
-use Rattle.file_disk.specs.declared.system_call.SystemCall.TheVariants.{ReadAt, WriteAt}
-use Rattle.file_disk.specs.SystemCalls.{Noted, answered}
+use Rattle.system_calls.specs.declared.system_call.SystemCall.{SystemCall}
+use Rattle.system_calls.specs.declared.system_call.SystemCall.TheVariants.{ReadAt, WriteAt}
+use Rattle.system_calls.specs.SystemCalls.{RecordedCall, answered}
 use Rattle.file_disk.specs.FileRecord.{Entry}
 use Rattle.file_disk.specs.Transfers.{Direction, Reads, Writes, Transfer, TransferLog, finished, is_same, continues_transfer, advanced, with_ongoing, after, transfers_in, transfers_by}
 
@@ -43,8 +43,8 @@ module _ (entries : List Entry) (direction : Direction) (start : ℕ) (bytes pie
   moved : length (take at bytes) ≡ at
   moved = length-take-le at bytes (omega (arith, more))
 
-  asks : continues_transfer ongoing direction (start + at) (length piece) ≡ true
-  asks =
+  continues : continues_transfer ongoing direction (start + at) (length piece) ≡ true
+  continues =
       and_from _ _ (and_from _ _ (same_direction direction) (eq-eqb (start + at) (start + length (take at bytes)) (ap (λ (k : ℕ). start + k) (sym moved))))
       (eq-eqb (length piece) (length (drop at bytes)) rest)
 
@@ -76,7 +76,7 @@ module _ (entries : List Entry) (direction : Direction) (start : ℕ) (bytes pie
 
   -- a call for the remaining bytes that moved n of them
   pub goes : step advanced (so_far entries direction start bytes at) n ≡ so_far entries direction start (take at bytes ++ piece) (at + n)
-  goes = ap (λ (reported : TransferLog). step advanced reported n) is_open ∙ cond-true (continues_transfer ongoing direction (start + at) (length piece)) _ _ asks ∙ joined
+  goes = ap (λ (reported : TransferLog). step advanced reported n) is_open ∙ cond-true (continues_transfer ongoing direction (start + at) (length piece)) _ _ continues ∙ joined
 
 abbrev pub moved_call : Direction → ℕ → ℕ → SystemCall
 moved_call Reads offset n = ReadAt offset n
@@ -87,7 +87,7 @@ after_moved : (direction : Direction) (reported : TransferLog) (offset n : ℕ) 
 after_moved Reads reported offset n bytes = refl
 after_moved Writes reported offset n bytes = refl
 
-module _ (direction : Direction) (old new : List Noted) (start : ℕ) where
+module _ (direction : Direction) (old new : List RecordedCall) (start : ℕ) where
   -- one more call, for the bytes that are left
   module _ (entries : List Entry) (bytes piece : List ℕ) (at : ℕ) (is : transfers_by old ≡ so_far entries direction start bytes at) (more : at < length bytes)
       (rest : length piece ≡ length (drop at bytes)) where

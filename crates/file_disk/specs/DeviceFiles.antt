@@ -59,5 +59,6 @@ IsNotOpenedExistingAt path refusal = IsNotOpenedExisting path (calls_of_open_err
 abbrev pub IsNotOpenedReadOnlyAt : List ℕ → OpenError → Type 0
 IsNotOpenedReadOnlyAt path refusal = IsNotOpenedReadOnly path (calls_of_open_error refusal) (failure_by refusal.fault refusal.cause)
 
-abbrev pub IsNotCreatedAt : List ℕ → OpenError → Type 0
-IsNotCreatedAt path refusal = IsNotCreated path (calls_of_open_error refusal) (failure_by refusal.fault refusal.cause)
+-- A file that was not created with this many sectors.
+abbrev pub IsNotCreatedAt : ℕ → List ℕ → OpenError → Type 0
+IsNotCreatedAt sectors path refusal = IsNotCreated path (calls_of_open_error refusal) (512 * sectors) (failure_by refusal.fault refusal.cause)

@@ -5,18 +5,18 @@ use Rattle.file_disk.specs.declared.file_device.FileDevice.{FileDevice}
 use Rattle.file_disk.specs.declared.file_device.OpenError.{OpenError}
 use Rattle.file_disk.specs.declared.file_calls.FileCalls as calls
 use Rattle.file_disk.specs.declared.file_calls.HostFile.{HostFile}
-use Rattle.file_disk.specs.SystemCalls.{Noted}
+use Rattle.system_calls.specs.SystemCalls.{RecordedCall}
 use Rattle.file_disk.specs.declared.file_assumptions.FileAssumptions as starts
 use Rattle.sector_disk.specs.Model.{Disk}
 use Rattle.sector_disk.specs.History.{History}
 use Rattle.file_disk.specs.FileRecord.{Entry, file_history}
 
 -- The system calls by which the file was opened.
-abbrev pub opening : HostFile → List Noted
+abbrev pub opening : HostFile → List RecordedCall
 opening file = file.opening
 
 -- The system calls of a failed opening.
-abbrev pub calls_of_open_error : OpenError → List Noted
+abbrev pub calls_of_open_error : OpenError → List RecordedCall
 calls_of_open_error refusal = refusal.noted
 
 module _ {S F : Type 0} {start : starts.Ghosts S} {g : calls.Ghosts F} where

@@ -1,5 +1,5 @@
 -- Definitions that public contracts use
-pub mod SystemCalls
+pub mod Creation
 pub mod Opening
 pub mod FileRecord
 pub mod FileCalls

@@ -1,7 +1,6 @@
 -- Opening or creating a file: its result, derived from the system calls that were made.
-use Rattle.std.specs.Prelude.{◌≡◌, ◌⊎◌, ℕ, ◌+◌, ◌%◌, max, Bool, true, false, ◌&&◌, List, [], ◌∷◌, drop, Option, Some, None, is_none, Result, Ok, Err, IfOk, if◌then◌else◌, ◌==◌, IsTrue, codes}
+use Rattle.std.specs.Prelude.{◌≡◌, ◌⊎◌, ℕ, ◌+◌, ◌%◌, max, Bool, true, false, ◌&&◌, List, [], ◌∷◌, drop, Option, Some, None, is_none, Result, Ok, Err, IfOk, if◌then◌else◌, ◌==◌, IsTrue}
 use Rattle.std.specs.Option.{option_or, option_map}
-use Rattle.std.specs.Path.{path_parent}
 use Rattle.std.specs.IoError.{error_kind}
 use Rattle.std.specs.declared.io.Error.{Error}
 use Rattle.std.specs.declared.io.ErrorKind.{ErrorKind}
@@ -9,10 +8,10 @@ use Rattle.std.specs.declared.io.ErrorKind.TheVariants as kind
 use Rattle.file_disk.specs.declared.file_device.FileFault.{FileFault}
 use Rattle.file_disk.specs.declared.file_device.FileFault.TheVariants as faults
 use Rattle.file_disk.specs.declared.opened_file.OpeningFault.{OpeningFault}
-use Rattle.file_disk.specs.declared.system_call.Access.{Access}
-use Rattle.file_disk.specs.declared.system_call.Access.TheVariants.{Read, Write, Create}
-use Rattle.file_disk.specs.declared.system_call.SystemCall.{SystemCall}
-use Rattle.file_disk.specs.declared.system_call.SystemCall.TheVariants.{
+use Rattle.system_calls.specs.declared.system_call.Access.{Access}
+use Rattle.system_calls.specs.declared.system_call.Access.TheVariants.{Read, Write, Create}
+use Rattle.system_calls.specs.declared.system_call.SystemCall.{SystemCall}
+use Rattle.system_calls.specs.declared.system_call.SystemCall.TheVariants.{
   Find,
   FindFailed,
   Open,
@@ -28,7 +27,9 @@ use Rattle.file_disk.specs.declared.system_call.SystemCall.TheVariants.{
   OpenFolder,
   SyncFolder,
 }
-use Rattle.file_disk.specs.SystemCalls.{Noted, is_memory, answered}
+use Rattle.system_calls.specs.SystemCalls.{RecordedCall, is_memory, answered}
+use Rattle.system_calls.specs.FolderSync.{folder_error, folder_of}
+use Rattle.file_disk.specs.Creation.{Measured, creation_state, is_unsafe}
 
 -- The fault for an error of the system.
 abbrev pub fault_of : ErrorKind → FileFault
@@ -37,10 +38,6 @@ fault_of kind = if is_memory kind then faults.OutOfMemory else faults.NoFile
 abbrev pub is_in_use : ErrorKind → Bool
 is_in_use kind.WouldBlock = true
 is_in_use _ = false
-
-abbrev pub is_not_offered : ErrorKind → Bool
-is_not_offered kind.InvalidInput = true
-is_not_offered _ = false
 
 -- A fault, and the system's error if it is reported with it.
 pub record Failure : Type 0 where
@@ -61,15 +58,6 @@ without_cause fault = record { fault = fault; cause = None }
 abbrev pub lock_failure : ErrorKind → Failure
 lock_failure kind = if is_in_use kind then without_cause faults.InUse else failure_of kind
 
--- The failure of a sync of a folder. Some file systems can't sync a folder and report invalid input; this is
--- not a failure.
-abbrev pub folder_failure : ErrorKind → Option Failure
-folder_failure kind = if is_not_offered kind then None else Some (failure_of kind)
-
-abbrev pub folder_failure_in : Option ErrorKind → Option Failure
-folder_failure_in None = None
-folder_failure_in (Some kind) = folder_failure kind
-
 -- The failure of a call; None if it did what was requested.
 abbrev pub failure_in : SystemCall → Option Failure
 failure_in (Find is_file) = if is_file then None else Some (without_cause faults.NoFile)
@@ -82,11 +70,11 @@ failure_in (SetLen len failed) = option_map failure_of failed
 failure_in (WriteAtFailed offset kind) = Some (failure_of kind)
 failure_in (SyncAll failed) = option_map failure_of failed
 failure_in (OpenFolder failed) = option_map failure_of failed
-failure_in (SyncFolder failed) = folder_failure_in failed
+failure_in (SyncFolder failed) = option_map failure_of (folder_error failed)
 failure_in _ = None
 
 -- The failure of the first call that failed.
-abbrev pub first_failure : List Noted → Option Failure
+abbrev pub first_failure : List RecordedCall → Option Failure
 first_failure [] = None
 first_failure (call ∷ earlier) = option_or (first_failure earlier) (failure_in call.0)
 
@@ -101,7 +89,7 @@ len_by (SetLen len failed) before = len_if failed len before
 len_by (WriteAt offset moved) before = option_map (max (offset + moved)) before
 len_by _ before = before
 
-abbrev pub len_after : List Noted → Option ℕ
+abbrev pub len_after : List RecordedCall → Option ℕ
 len_after [] = None
 len_after (call ∷ earlier) = len_by call.0 (len_after earlier)
 
@@ -148,24 +136,15 @@ effects_of (ReadAtFailed offset kind) bytes before = before
 effects_of (OpenFolder failed) path before = record { opened = with_folder path before.opened; is_changed = true }
 effects_of _ bytes before = with_change before
 
-abbrev pub effects_in : List Noted → FileEffects
+abbrev pub effects_in : List RecordedCall → FileEffects
 effects_in [] = no_effects
 effects_in (call ∷ earlier) = effects_of call.0 call.1 (effects_in earlier)
 
-abbrev pub opened_in : List Noted → OpenedPaths
+abbrev pub opened_in : List RecordedCall → OpenedPaths
 opened_in calls = (effects_in (answered calls)).opened
 
--- The folder of the file at a path: the part before its name, or the current folder.
-abbrev pub folder_or_here : Option (List ℕ) → List ℕ
-folder_or_here None = codes "."
-folder_or_here (Some []) = codes "."
-folder_or_here (Some (byte ∷ bytes)) = byte ∷ bytes
-
-abbrev pub folder_of : List ℕ → List ℕ
-folder_of path = folder_or_here (path_parent path)
-
 -- The failure of opening an existing file: the first failure of its calls, else that of its length.
-abbrev pub taking_failure : List Noted → Option Failure
+abbrev pub taking_failure : List RecordedCall → Option Failure
 taking_failure calls = option_or (first_failure (answered calls)) (len_failure (len_after (answered calls)))
 
 abbrev pub is_file_sync : SystemCall → Bool
@@ -176,17 +155,17 @@ abbrev pub is_folder_sync : SystemCall → Bool
 is_folder_sync (SyncFolder failed) = true
 is_folder_sync _ = false
 
-abbrev pub is_folder_synced : List Noted → Bool
+abbrev pub is_folder_synced : List RecordedCall → Bool
 is_folder_synced [] = false
 is_folder_synced (call ∷ earlier) = is_folder_sync call.0
 
 -- The newest call synced the file.
-abbrev pub is_file_synced : List Noted → Bool
+abbrev pub is_file_synced : List RecordedCall → Bool
 is_file_synced [] = false
 is_file_synced (call ∷ earlier) = is_file_sync call.0
 
 -- The newest calls synced the file, opened its folder and synced the folder.
-abbrev pub is_synced : List Noted → Bool
+abbrev pub is_synced : List RecordedCall → Bool
 is_synced calls = is_file_synced (drop 2 calls) && is_folder_synced calls
 
 -- The failure that a step of an opening reports, if any.
@@ -194,18 +173,30 @@ abbrev pub failure_reported : {T : Type 0} → Result T OpeningFault → Option 
 failure_reported (Ok _) = None
 failure_reported (Err refusal) = Some (failure_by refusal.fault refusal.cause)
 
--- No call has failed so far, and the file has this length.
-pub record HasLen (calls : List Noted) (len : ℕ) : Type 0 where
-  pub no_fault : first_failure (answered calls) ≡ None
-  pub length : len_after (answered calls) ≡ Some len
+-- The file was measured under its lock and was `old` bytes long. Nothing that is to be kept was changed since.
+abbrev pub KeepsBytes : ℕ → ℕ → List RecordedCall → Type 0
+KeepsBytes old len calls = creation_state len (answered calls) ≡ Measured old
 
--- A step that sets the file's length and syncs it. It reports its failure, or the file has the length and is
--- synced. It opened no other file.
-pub record IsResized {T : Type 0} (result : Result T OpeningFault) (earlier calls : List Noted) (len : ℕ) : Type 0 where
+-- No call has failed so far. The file was measured under its lock, is `old` bytes long, and gets the length
+-- `len`.
+pub record HasLen (calls : List RecordedCall) (old len : ℕ) : Type 0 where
+  pub no_fault : first_failure (answered calls) ≡ None
+  pub length : len_after (answered calls) ≡ Some old
+  pub kept : KeepsBytes old len calls
+
+-- A step that sets the length of a file that was `old` bytes long. It reports its failure, or the file has the
+-- length. It opened no other file.
+pub record IsResized {T : Type 0} (result : Result T OpeningFault) (earlier calls : List RecordedCall) (old len : ℕ) : Type 0 where
   pub reported : first_failure (answered calls) ≡ failure_reported result
   pub length : IfOk result (λ done. len_after (answered calls) ≡ Some len)
-  pub synced : IfOk result (λ done. IsTrue (is_file_synced (answered calls)))
   pub opened : opened_in calls ≡ opened_in earlier
+  pub kept : KeepsBytes old len calls
+
+-- A step that opens and syncs the folder of the file at this path, and changes no file.
+pub record OpensOnlyFolder (path : List ℕ) (earlier calls : List RecordedCall) : Type 0 where
+  pub length : len_after (answered calls) ≡ len_after (answered earlier)
+  pub opened : opened_in calls ≡ with_folder (folder_of path) (opened_in earlier)
+  pub kept : (old len : ℕ) → KeepsBytes old len earlier → KeepsBytes old len calls
 
 -- ---- the file at a path
 
@@ -216,17 +207,17 @@ is_shared _ = false
 
 -- The calls before the opening. For reading, it is first checked that the path leads to a plain file, since
 -- opening another kind of file could block.
-abbrev pub finding_calls : Access → List ℕ → List Noted
+abbrev pub finding_calls : Access → List ℕ → List RecordedCall
 finding_calls Read path = (Find true, path) ∷ []
 finding_calls _ path = []
 
 -- The calls that open the file with this access, lock it and measure it, the newest first.
-abbrev pub opening_calls : Access → List ℕ → ℕ → List Noted
+abbrev pub opening_calls : Access → List ℕ → ℕ → List RecordedCall
 opening_calls access path len = (Measure true len, []) ∷ (Lock (is_shared access) None, []) ∷ (Open access None, path) ∷ finding_calls access path
 
 -- These calls were made and no others, so nothing was truncated or written. The file has this length, which is
 -- a whole number of sectors.
-pub record IsOpened (access : Access) (path : List ℕ) (calls : List Noted) (len : ℕ) : Type 0 where
+pub record IsOpened (access : Access) (path : List ℕ) (calls : List RecordedCall) (len : ℕ) : Type 0 where
   pub only : calls ≡ opening_calls access path len
   pub no_fault : taking_failure calls ≡ None
   pub length : len_after (answered calls) ≡ Some len
@@ -238,34 +229,39 @@ HasOnlyOpened Read path touched = (touched ≡ no_effects) ⊎ (touched ≡ with
 HasOnlyOpened access path touched = touched ≡ with_opened access path no_effects
 
 -- The file was not opened, because of the failure that the calls report.
-pub record IsNotOpened (access : Access) (path : List ℕ) (calls : List Noted) (failure : Failure) : Type 0 where
+pub record IsNotOpened (access : Access) (path : List ℕ) (calls : List RecordedCall) (failure : Failure) : Type 0 where
   pub reported : taking_failure calls ≡ Some failure
   pub touched : HasOnlyOpened access path (effects_in (answered calls))
 
 -- The existing file was opened for reading and writing. Below, `IsNotOpenedExisting`: it was not opened. In
 -- both cases no file was created.
-abbrev pub IsOpenedExisting : List ℕ → List Noted → ℕ → Type 0
+abbrev pub IsOpenedExisting : List ℕ → List RecordedCall → ℕ → Type 0
 IsOpenedExisting path calls len = IsOpened Write path calls len
 
-abbrev pub IsNotOpenedExisting : List ℕ → List Noted → Failure → Type 0
+abbrev pub IsNotOpenedExisting : List ℕ → List RecordedCall → Failure → Type 0
 IsNotOpenedExisting path calls failure = IsNotOpened Write path calls failure
 
 -- The existing file was opened for reading only. Below, `IsNotOpenedReadOnly`: it was not opened.
-abbrev pub IsOpenedReadOnly : List ℕ → List Noted → ℕ → Type 0
+abbrev pub IsOpenedReadOnly : List ℕ → List RecordedCall → ℕ → Type 0
 IsOpenedReadOnly path calls len = IsOpened Read path calls len
 
-abbrev pub IsNotOpenedReadOnly : List ℕ → List Noted → Failure → Type 0
+abbrev pub IsNotOpenedReadOnly : List ℕ → List RecordedCall → Failure → Type 0
 IsNotOpenedReadOnly path calls failure = IsNotOpened Read path calls failure
 
--- The file was opened, and created if there was none, and no other file was opened. Its length was set, and
--- then it and its folder were synced.
-pub record IsCreated (path : List ℕ) (calls : List Noted) (len : ℕ) : Type 0 where
+-- The file was opened, and created if there was none, and no other file was opened. Its lock was taken before
+-- it was changed, and it keeps its old bytes up to its new length. Its length was set, and then it and its
+-- folder were synced.
+pub record IsCreated (path : List ℕ) (calls : List RecordedCall) (len : ℕ) : Type 0 where
   pub no_fault : first_failure (answered calls) ≡ None
   pub opened : opened_in calls ≡ record { files = (Create, path) ∷ []; folders = folder_of path ∷ [] }
+  pub old : ℕ
+  pub kept : KeepsBytes old len calls
   pub length : len_after (answered calls) ≡ Some len
   pub synced : IsTrue (is_synced (answered calls))
 
--- The file was not created, because of the failure that the calls report. The calls opened no other file.
-pub record IsNotCreated (path : List ℕ) (calls : List Noted) (failure : Failure) : Type 0 where
+-- The file was not created with this length, because of the failure that the calls report. The calls opened no
+-- other file, changed this one only under its lock, and kept its old bytes up to this length.
+pub record IsNotCreated (path : List ℕ) (calls : List RecordedCall) (len : ℕ) (failure : Failure) : Type 0 where
   pub reported : first_failure (answered calls) ≡ Some failure
   pub files : (opened_in calls).files ≡ (Create, path) ∷ []
+  pub kept : is_unsafe (creation_state len (answered calls)) ≡ false

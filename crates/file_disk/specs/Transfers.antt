@@ -1,8 +1,8 @@
 -- System calls combined into reads, writes and syncs of a device.
 use Rattle.std.specs.Prelude.{ℕ, ◌+◌, ◌/◌, nat_le, Bool, true, false, ◌&&◌, List, [], ◌∷◌, ◌++◌, length, take, drop, Option, Some, None, is_none, if◌then◌else◌, ◌==◌}
-use Rattle.file_disk.specs.declared.system_call.SystemCall.{SystemCall}
-use Rattle.file_disk.specs.declared.system_call.SystemCall.TheVariants as call
-use Rattle.file_disk.specs.SystemCalls.{Noted, answered}
+use Rattle.system_calls.specs.declared.system_call.SystemCall.{SystemCall}
+use Rattle.system_calls.specs.declared.system_call.SystemCall.TheVariants as call
+use Rattle.system_calls.specs.SystemCalls.{RecordedCall, answered}
 use Rattle.file_disk.specs.FileRecord.{Entry, ReadGave, ReadFailed, WriteFinished, WriteFailed}
 use Rattle.file_disk.specs.FileCalls.{sync_entry}
 
@@ -71,10 +71,10 @@ after reported (call.WriteAtFailed offset kind) bytes = with_ongoing stopped rep
 after reported (call.SyncData failed) bytes = record { entries = sync_entry (is_none failed) ∷ settled reported.entries reported.ongoing; ongoing = None }
 after reported _ bytes = reported
 
-abbrev pub transfers_in : List Noted → TransferLog
+abbrev pub transfers_in : List RecordedCall → TransferLog
 transfers_in [] = record { entries = []; ongoing = None }
 transfers_in (call ∷ earlier) = after (transfers_in earlier) call.0 call.1
 
 -- The transfers that these calls make. An interrupted call is repeated, and does not count.
-abbrev pub transfers_by : List Noted → TransferLog
+abbrev pub transfers_by : List RecordedCall → TransferLog
 transfers_by calls = transfers_in (answered calls)

@@ -35,7 +35,7 @@ pub trait DeviceFiles {
     /// The requests so far, the newest first.
     ghost requested: { Self → List FileRequestEntry };
 
-    /// Opens the existing file as a device, like `FileDevice::at_or_cause`.
+    /// Opens the existing file as a device, like `FileDevice::open`.
     fn open_existing<S: FileAssumptions>(
         &mut self,
         path: &str,
@@ -55,7 +55,7 @@ pub trait DeviceFiles {
         ensures reported { MatchResult result
             (IsOpenedReadOnlyAt ⟦<HostFile as FileCalls>⟧.entries path.now) (IsNotOpenedReadOnlyAt path.now) };
 
-    /// Creates a device over the file, like `FileDevice::create_or_cause`.
+    /// Creates a device over the file, like `FileDevice::create_with_cause`.
     fn create<S: FileAssumptions>(
         &mut self,
         path: &str,
@@ -67,7 +67,7 @@ pub trait DeviceFiles {
         ensures not_too_long { sectors < 2 ^ 54
             → IfErr result (λ refusal. refusal.fault ≢ FileFault.BadLength) }
         ensures reported { sectors < 2 ^ 54 → MatchResult result
-            (IsCreatedAt ⟦<HostFile as FileCalls>⟧.entries path.now) (IsNotCreatedAt path.now) };
+            (IsCreatedAt ⟦<HostFile as FileCalls>⟧.entries path.now) (IsNotCreatedAt sectors path.now) };
 
     /// Returns whether both paths lead to the same file, through any links.
     fn is_same_file(&mut self, one: &str, other: &str) -> bool
@@ -151,7 +151,7 @@ impl<'a, R: Files<File = File>> DeviceFiles for HostDeviceFiles<'a, R> {
         start: S,
     ) -> Result<FileDevice<S>, OpenError> {
         self.noted.note(FileRequest::OpenExisting, path.as_bytes());
-        FileDevice::at_or_cause(self.rt, path, start)
+        FileDevice::open(self.rt, path, start)
     }
 
     fn open_read_only<S: FileAssumptions>(
@@ -170,7 +170,7 @@ impl<'a, R: Files<File = File>> DeviceFiles for HostDeviceFiles<'a, R> {
         start: S,
     ) -> Result<FileDevice<S>, OpenError> {
         self.noted.note(FileRequest::Create, path.as_bytes());
-        FileDevice::create_or_cause(self.rt, path, sectors, start)
+        FileDevice::create_with_cause(self.rt, path, sectors, start)
     }
 
     fn is_same_file(&mut self, one: &str, other: &str) -> bool {

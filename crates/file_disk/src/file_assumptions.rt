@@ -1,9 +1,9 @@
 //! Assumptions about a file when it is opened.
 //!
-//! A type `S: FileAssumptions` stands for the assumptions, and a function generic over it is proved for all of
-//! them. Each opening consumes a value of `S`, so such a function opens one file for each value that it
-//! receives. Otherwise two files under one `S` could be shown to disagree with it, and the clauses would be
-//! vacuous. Only `main` names a concrete type, `UnknownFile`.
+//! A type `S: FileAssumptions` holds the assumptions, and a function generic over it is proved for all of them.
+//! Each opening consumes a value of `S`, so such a function opens one file for each value that it receives.
+//! Otherwise two files under one `S` could be shown to disagree with it, and the clauses would be vacuous. Only
+//! `main` names a concrete type, `UnknownFile`.
 ghost use Rattle.std.specs.Prelude.{ℕ, List, [], ◌∷◌};
 ghost use Rattle.sector_disk.specs.Model.{Disk, settled};
 

@@ -6,14 +6,14 @@
 ghost use Rattle.std.specs.Prelude.{◌≡◌, ◌+◌, ◌*◌, ◌^◌, ◌<◌, List, [], ◌∷◌, length, is_ok, None};
 ghost use Rattle.file_disk.specs.FileRecord.{Entry};
 ghost use Rattle.file_disk.specs.FileCalls.{read_entry, write_entry, sync_entry};
-ghost use Rattle.file_disk.specs.SystemCalls.{Noted};
+ghost use Rattle.system_calls.specs.SystemCalls.{RecordedCall};
 ghost use Rattle.file_disk.specs.Transfers.{transfers_by};
 
-use crate::system::{self, SystemCallLog};
 use crate::transfers::{read_whole, write_whole};
 use sector_disk::SECTOR_SIZE;
 use std::fs::File;
 use std::io;
+use system_calls::SystemCallLog;
 
 pub const SECTOR: u64 = SECTOR_SIZE as u64;
 
@@ -69,6 +69,6 @@ impl FileCalls for HostFile {
     }
 
     fn sync(&mut self) -> io::Result<()> {
-        system::sync_data(&self.file, &mut self.noted)
+        system_calls::sync_data(&self.file, &mut self.noted)
     }
 }

@@ -17,27 +17,22 @@ ghost use Rattle.file_disk.specs.Opening.{failure_by, IsOpened, IsNotOpened, IsO
 use crate::FileAssumptions;
 use crate::file_calls::{FileCalls, HostFile, SECTOR};
 use crate::opened_file::{OpeningFault, create_file, open_existing_file};
-use crate::system::SystemCallLog;
-use crate::system_call::Access;
 use sector_disk::{DeviceFault, Sectors};
 use std::fs::{File, Files};
 use std::io;
 use std::marker::PhantomData;
-use thiserror::Error;
+use system_calls::{Access, SystemCallLog};
 
 /// The reason why a file is not opened as a device.
-#[derive(Clone, Copy, Debug, PartialEq, Eq, Error)]
+#[derive(Clone, Copy, Debug, PartialEq, Eq)]
 pub enum FileFault {
     /// The path does not lead to a plain file that can be opened in the requested way.
-    #[error("no file that can be opened")]
     NoFile,
     /// The length is not a whole number of sectors, or no file can be that long.
-    #[error("the length is no whole number of sectors")]
     BadLength,
-    #[error("out of memory")]
+    /// The system reported that it has no memory.
     OutOfMemory,
     /// Another process, or another device of this process, holds a lock that excludes this one.
-    #[error("the file is in use")]
     InUse,
 }
 
@@ -138,14 +133,14 @@ impl<S: FileAssumptions> FileDevice<S> {
         ensures made { IfOk result (λ device.
             IsCreated path.now (opening device.file) (512 * sectors)) }
     {
-        match FileDevice::create_or_cause(rt, path, sectors, start) {
+        match FileDevice::create_with_cause(rt, path, sectors, start) {
             Ok(device) => Ok(device),
             Err(refusal) => Err(refusal.fault),
         }
     }
 
     /// Like `create`, but returns the system's error with a fault.
-    pub fn create_or_cause<R: Files<File = File>>(
+    pub fn create_with_cause<R: Files<File = File>>(
         rt: &R,
         path: &str,
         sectors: u64,
@@ -160,7 +155,7 @@ impl<S: FileAssumptions> FileDevice<S> {
         ensures reported { MatchResult result
             (λ device. IsCreated path.now (opening device.file) (512 * sectors))
             (λ refusal. sectors < 2 ^ 54
-            → IsNotCreated path.now (calls_of_open_error refusal)
+            → IsNotCreated path.now (calls_of_open_error refusal) (512 * sectors)
             (failure_by refusal.fault refusal.cause)) }
     {
         let mut noted = SystemCallLog::new();
@@ -184,14 +179,14 @@ impl<S: FileAssumptions> FileDevice<S> {
         ensures taken { IfOk result (λ device.
             IsOpenedExisting path.now (opening device.file) (512 * device_len device)) }
     {
-        match FileDevice::at_or_cause(rt, path, start) {
+        match FileDevice::open(rt, path, start) {
             Ok(device) => Ok(device),
             Err(refusal) => Err(refusal.fault),
         }
     }
 
     /// Like `at`, but returns the system's error with a fault.
-    pub fn at_or_cause<R: Files<File = File>>(
+    pub fn open<R: Files<File = File>>(
         rt: &R,
         path: &str,
         _start: S,
@@ -202,7 +197,7 @@ impl<S: FileAssumptions> FileDevice<S> {
             (λ refusal. IsNotOpenedExisting path.now (calls_of_open_error refusal)
             (failure_by refusal.fault refusal.cause)) }
     {
-        FileDevice::opened(rt, path, Access::Write)
+        FileDevice::open_existing(rt, path, Access::Write)
     }
 
     /// Opens the existing file at `path` for reading only, so the file may be write-protected. Other readers
@@ -218,11 +213,11 @@ impl<S: FileAssumptions> FileDevice<S> {
             (λ refusal. IsNotOpenedReadOnly path.now (calls_of_open_error refusal)
             (failure_by refusal.fault refusal.cause)) }
     {
-        FileDevice::opened(rt, path, Access::Read)
+        FileDevice::open_existing(rt, path, Access::Read)
     }
 
     // Opens the existing file as a device.
-    fn opened<R: Files<File = File>>(
+    fn open_existing<R: Files<File = File>>(
         rt: &R,
         path: &str,
         access: Access,

@@ -1,4 +1,5 @@
-//! A device over a plain file. Each system call is recorded, together with its answer, for the contracts.
+//! A device over a plain file. Each system call is recorded, together with its answer, for the contracts
+//! (`system_calls`).
 //!
 //! Only programs use this crate: the crates of the store are generic over the trait `Sectors` of `sector_disk`.
 //!
@@ -8,7 +9,6 @@
 //! - `device_files`: opens and creates files by path, and records each request
 //! - `file_calls`, `transfers`: the file's reads, writes and syncs; system calls are repeated until all bytes
 //!   are moved
-//! - `system`, `system_call`: one function for each system call, and the record entry that it makes
 //! - `file_assumptions`: the assumptions about a file when it is opened
 //! - `laws`: the meaning of the record of a file
 //!
@@ -17,9 +17,8 @@
 //! interrupted call is repeated, and a failed sync stays failed. An opening takes the file's lock before it
 //! reads or sets the length, and its result follows from its system calls.
 //!
-//! Trusted, since no proof shows it: each function of `system` makes exactly the call that it records; the
-//! system keeps a lock; nobody writes the file without taking its lock; the next opening finds an image that
-//! the model allows.
+//! Trusted, since no proof shows it: a system call is made as it is recorded; the system keeps a lock; nobody
+//! writes the file without taking its lock; the next opening finds an image that the model allows.
 #![tactic(auto)]
 
 mod device_files;
@@ -28,8 +27,6 @@ mod file_calls;
 mod file_device;
 mod laws;
 mod opened_file;
-mod system;
-mod system_call;
 mod transfers;
 
 pub use device_files::{DeviceFiles, FileIdentity, FileRequest, HostDeviceFiles};

@@ -5,20 +5,19 @@
 //! The lock is the system's advisory lock on the whole file (`flock`). It is released when the file is closed,
 //! and so also when its process ends. It keeps out only processes that lock the file too. Processes that open a
 //! file for reading only share the lock with each other.
-ghost use Rattle.std.specs.Prelude.{◌≡◌, ◌*◌, ◌/◌, ◌%◌, ◌^◌, ◌<◌, ◌≤◌, ◌≢◌, IfOk, IfErr, IsTrue, IsErrOf, Ok, Some, None, false, true, List, [], ◌∷◌};
+ghost use Rattle.std.specs.Prelude.{ℕ, ◌≡◌, ◌*◌, ◌/◌, ◌%◌, ◌^◌, ◌<◌, ◌≤◌, ◌≢◌, IfOk, IfErr, IsTrue, IsErrOf, Ok, Some, None, false, true, List, [], ◌∷◌};
 ghost use Rattle.std.specs.IoError.{error_kind};
-ghost use Rattle.file_disk.specs.SystemCalls.{answered};
-ghost use Rattle.file_disk.specs.Opening.{lock_failure, folder_failure, failure_by, failure_reported, first_failure, len_after, is_file_synced, is_synced, folder_of, folder_or_here, opened_in, finding_calls, effects_in, no_effects, with_folder, with_opened, is_shared, HasLen, IsResized, IsOpened, IsNotOpened, IsCreated, IsNotCreated};
+ghost use Rattle.system_calls.specs.FolderSync.{folder_of};
+ghost use Rattle.system_calls.specs.SystemCalls.{answered};
+ghost use Rattle.file_disk.specs.Opening.{lock_failure, failure_by, failure_reported, first_failure, len_after, is_file_synced, is_synced, opened_in, finding_calls, effects_in, no_effects, with_folder, with_opened, is_shared, HasLen, IsResized, KeepsBytes, OpensOnlyFolder, IsOpened, IsNotOpened, IsCreated, IsNotCreated};
 
 use crate::FileFault;
 use crate::file_calls::SECTOR;
-use crate::system::{self, SystemCallLog};
-use crate::system_call::{Access, SystemCall};
 use crate::transfers::write_some;
 use std::fs::{File, Files};
 use std::io;
 use std::io::ErrorKind;
-use std::path::Path;
+use system_calls::{Access, SystemCall, SystemCallLog};
 
 /// The zeros of one write when a file is extended.
 const ZEROS: [u8; 4096] = [0; 4096];
@@ -31,7 +30,7 @@ pub struct OpeningFault {
 }
 
 impl From<FileFault> for OpeningFault {
-    ghost use Rattle.std.specs.Prelude.{◌≡◌, None};
+    ghost use Rattle.std.specs.Prelude.{ℕ, ◌≡◌, None};
 
     ghost from_gives = { λ fault refusal. (refusal.fault ≡ fault) × (refusal.cause ≡ None) };
 
@@ -41,7 +40,7 @@ impl From<FileFault> for OpeningFault {
 }
 
 impl From<io::Error> for OpeningFault {
-    ghost use Rattle.std.specs.Prelude.{◌≡◌, Some};
+    ghost use Rattle.std.specs.Prelude.{ℕ, ◌≡◌, Some};
     ghost use Rattle.std.specs.IoError.{error_kind};
     ghost use Rattle.file_disk.specs.Opening.{fault_of};
 
@@ -77,125 +76,56 @@ fn is_shared(access: Access) -> bool
     matches!(access, Access::Read)
 }
 
-/// An open file, and whether its lock was taken.
-#[derive(Drop)]
-pub struct OpenedFile {
-    file: File,
-    is_locked: bool,
-}
-
-impl OpenedFile {
-    // Opens the file.
-    fn open<R: Files<File = File>>(
-        rt: &R,
-        path: &str,
-        access: Access,
-        noted: &mut SystemCallLog,
-    ) -> Result<OpenedFile, OpeningFault>
-        requires no_fault { first_failure (answered noted.old) ≡ None }
-        ensures unlocked { IfOk result (λ opened. opened.is_locked ≡ false) }
-        ensures requested { IfOk result (λ _.
-            noted.new ≡ (SystemCall.Open access None, path.now) ∷ noted.old) }
-        ensures reported { first_failure (answered noted.new) ≡ failure_reported result }
-        ensures effects { effects_in (answered noted.new)
-            ≡ with_opened access path.now (effects_in (answered noted.old)) }
-    {
-        let file = system::open(rt, path, access, noted)?;
-        Ok(OpenedFile {
-            file,
-            is_locked: false,
-        })
-    }
-
-    // Takes the lock. Fails if another process, or another device of this process, holds it.
-    fn lock(&mut self, is_shared: bool, noted: &mut SystemCallLog) -> Result<(), OpeningFault>
-        requires no_fault { first_failure (answered noted.old) ≡ None }
-        ensures locked { IfOk result (λ _. IsTrue self.new.is_locked) }
-        ensures requested { IfOk result (λ _.
-            noted.new ≡ (SystemCall.Lock is_shared None, []) ∷ noted.old) }
-        ensures reported { first_failure (answered noted.new) ≡ failure_reported result }
-        ensures effects { effects_in (answered noted.new) ≡ effects_in (answered noted.old) }
-    {
-        if let Err(error) = system::lock(&self.file, is_shared, noted) {
-            return Err(lock_fault(error));
-        }
-        self.is_locked = true;
-        Ok(())
-    }
-
-    /// Opens the file and takes its lock.
-    pub fn open_locked<R: Files<File = File>>(
-        rt: &R,
-        path: &str,
-        access: Access,
-        noted: &mut SystemCallLog,
-    ) -> Result<OpenedFile, OpeningFault>
-        requires no_fault { first_failure (answered noted.old) ≡ None }
-        ensures locked { IfOk result (λ opened. IsTrue opened.is_locked) }
-        ensures requested { IfOk result (λ _. noted.new
-            ≡ (SystemCall.Lock (is_shared access) None, [])
-            ∷ (SystemCall.Open access None, path.now) ∷ noted.old) }
-        ensures reported { first_failure (answered noted.new) ≡ failure_reported result }
-        ensures effects { effects_in (answered noted.new)
-            ≡ with_opened access path.now (effects_in (answered noted.old)) }
-    {
-        let mut opened = OpenedFile::open(rt, path, access, noted)?;
-        opened.lock(is_shared(access), noted)?;
-        Ok(opened)
-    }
-
-    // Returns the length of the file, if it is a plain one.
-    fn measure(&self, noted: &mut SystemCallLog) -> Result<u64, OpeningFault>
-        requires locked { IsTrue self.now.is_locked }
-        requires no_fault { first_failure (answered noted.old) ≡ None }
-        ensures requested { IfOk result (λ len.
-            noted.new ≡ (SystemCall.Measure true len, []) ∷ noted.old) }
-        ensures reported { first_failure (answered noted.new) ≡ failure_reported result }
-        ensures effects { effects_in (answered noted.new) ≡ effects_in (answered noted.old) }
-    {
-        let extent = system::measure(&self.file, noted)?;
-        if !extent.is_file {
-            return Err(OpeningFault::from(FileFault::NoFile));
-        }
-        Ok(extent.len)
-    }
-
-    /// Sets the length of a plain file and makes it durable. Bytes that are cut off are lost. New bytes are
-    /// written as zeros, so that a full disk reports an error now.
-    pub fn resize(&self, len: u64, noted: &mut SystemCallLog) -> Result<(), OpeningFault>
-        requires locked { IsTrue self.now.is_locked }
-        requires no_fault { first_failure (answered noted.old) ≡ None }
-        ensures { IsResized result noted.old noted.new len }
-    {
-        let old = self.measure(noted)?;
-        settle_len(&self.file, old, len, noted)
-    }
-
-    /// Returns the file, which keeps its lock.
-    pub fn into_file(self) -> File
-        requires locked { IsTrue self.is_locked }
-        ensures { result ≡ self.file }
-    {
-        self.file
-    }
-}
-
-// Changes the length of a file that is `old` bytes long, and syncs it. If extending fails, for example on a
-// full disk, truncates the file to its old length.
-fn settle_len(
-    file: &File,
-    old: u64,
-    len: u64,
+// Opens the file and takes its lock. Fails if another process, or another device of this process, holds it.
+fn open_locked<R: Files<File = File>>(
+    rt: &R,
+    path: &str,
+    access: Access,
     noted: &mut SystemCallLog,
-) -> Result<(), OpeningFault>
-    requires long { HasLen noted.old old }
-    ensures { IsResized result noted.old noted.new len }
+) -> Result<File, OpeningFault>
+    requires no_fault { first_failure (answered noted.old) ≡ None }
+    ensures requested { IfOk result (λ _. noted.new
+        ≡ (SystemCall.Lock (is_shared access) None, [])
+        ∷ (SystemCall.Open access None, path.now) ∷ noted.old) }
+    ensures reported { first_failure (answered noted.new) ≡ failure_reported result }
+    ensures effects { effects_in (answered noted.new)
+        ≡ with_opened access path.now (effects_in (answered noted.old)) }
+{
+    let file = system_calls::open(rt, path, access, noted)?;
+    match system_calls::lock(&file, is_shared(access), noted) {
+        Ok(()) => Ok(file),
+        Err(error) => Err(lock_fault(error)),
+    }
+}
+
+// Returns the length of the file, if it is a plain one.
+fn measure(file: &File, noted: &mut SystemCallLog) -> Result<u64, OpeningFault>
+    requires no_fault { first_failure (answered noted.old) ≡ None }
+    ensures requested { IfOk result (λ len.
+        noted.new ≡ (SystemCall.Measure true len, []) ∷ noted.old) }
+    ensures reported { first_failure (answered noted.new) ≡ failure_reported result }
+    ensures effects { effects_in (answered noted.new) ≡ effects_in (answered noted.old) }
+{
+    let metadata = system_calls::measure(file, noted)?;
+    if !metadata.is_file {
+        return Err(OpeningFault::from(FileFault::NoFile));
+    }
+    Ok(metadata.len)
+}
+
+// Sets the length of a file that is `old` bytes long, and makes it durable. Bytes that are cut off are lost. New
+// bytes are written as zeros, so that a full disk reports an error now. If that fails, truncates the file to its
+// old length.
+fn resize(file: &File, old: u64, len: u64, noted: &mut SystemCallLog) -> Result<(), OpeningFault>
+    requires long { HasLen noted.old old len }
+    ensures resized { IsResized result noted.old noted.new old len }
+    ensures synced { IfOk result (λ _. IsTrue (is_file_synced (answered noted.new))) }
 {
     if len <= old {
         return shorten(file, len, noted);
     }
     if let Err(refusal) = lengthen(file, old, len, noted) {
-        let _ = system::set_len(file, old, noted);
+        let _ = system_calls::set_len(file, old, noted);
         return Err(refusal);
     }
     Ok(())
@@ -204,21 +134,24 @@ fn settle_len(
 // Truncates a file to this length, and syncs it.
 fn shorten(file: &File, len: u64, noted: &mut SystemCallLog) -> Result<(), OpeningFault>
     requires no_fault { first_failure (answered noted.old) ≡ None }
-    ensures { IsResized result noted.old noted.new len }
+    ensures resized { (old : ℕ) → KeepsBytes old len noted.old
+        → IsResized result noted.old noted.new old len }
+    ensures synced { IfOk result (λ _. IsTrue (is_file_synced (answered noted.new))) }
 {
-    system::set_len(file, len, noted)?;
-    system::sync_all(file, noted)?;
+    system_calls::set_len(file, len, noted)?;
+    system_calls::sync_all(file, noted)?;
     Ok(())
 }
 
 // Appends zeros to a file that is `old` bytes long, up to the new length, and syncs it.
 fn lengthen(file: &File, old: u64, len: u64, noted: &mut SystemCallLog) -> Result<(), OpeningFault>
     requires longer { old < len }
-    requires long { HasLen noted.old old }
-    ensures { IsResized result noted.old noted.new len }
+    requires long { HasLen noted.old old len }
+    ensures resized { IsResized result noted.old noted.new old len }
+    ensures synced { IfOk result (λ _. IsTrue (is_file_synced (answered noted.new))) }
 {
     write_zeros(file, old, len, noted)?;
-    system::sync_all(file, noted)?;
+    system_calls::sync_all(file, noted)?;
     Ok(())
 }
 
@@ -230,10 +163,8 @@ fn write_zeros(
     noted: &mut SystemCallLog,
 ) -> Result<(), OpeningFault>
     requires longer { from ≤ to }
-    requires long { HasLen noted.old from }
-    ensures reported { first_failure (answered noted.new) ≡ failure_reported result }
-    ensures len { IfOk result (λ _. len_after (answered noted.new) ≡ Some to) }
-    ensures opened { opened_in noted.new ≡ opened_in noted.old }
+    requires long { HasLen noted.old from to }
+    ensures { IsResized result noted.old noted.new from to }
 {
     let mut at = from;
     while at < to {
@@ -269,7 +200,7 @@ fn require_plain_file<R: Files>(
     ensures effects { effects_in (answered noted.new) ≡ effects_in (answered noted.old) }
     ensures len { len_after (answered noted.new) ≡ len_after (answered noted.old) }
 {
-    if !system::find(rt, path, noted)? {
+    if !system_calls::find(rt, path, noted)? {
         return Err(OpeningFault::from(FileFault::NoFile));
     }
     Ok(())
@@ -310,14 +241,14 @@ pub fn open_existing_file<R: Files<File = File>>(
         (failure_by refusal.fault refusal.cause)) }
 {
     require_plain_file_to_read(rt, path, access, noted)?;
-    let opened = OpenedFile::open_locked(rt, path, access, noted)?;
-    let len = opened.measure(noted)?;
+    let file = open_locked(rt, path, access, noted)?;
+    let len = measure(&file, noted)?;
     let sectors = sectors_of(len)?;
-    Ok((opened.into_file(), sectors))
+    Ok((file, sectors))
 }
 
-/// Opens a file, creating it if there is none, and sets its length. On success the length is durable, and so is
-/// the name if the file system can sync folders.
+/// Opens a file, creating it if there is none, takes its lock and sets its length. On success the length is
+/// durable, and so is the name if the file system can sync folders.
 pub fn create_file<R: Files<File = File>>(
     rt: &R,
     path: &str,
@@ -326,13 +257,14 @@ pub fn create_file<R: Files<File = File>>(
 ) -> Result<File, OpeningFault>
     requires first { noted.old ≡ [] }
     ensures made { IfOk result (λ _. IsCreated path.now noted.new len) }
-    ensures refused { IfErr result (λ refusal. IsNotCreated path.now noted.new
+    ensures refused { IfErr result (λ refusal. IsNotCreated path.now noted.new len
         (failure_by refusal.fault refusal.cause)) }
 {
-    let opened = OpenedFile::open_locked(rt, path, Access::Create, noted)?;
-    opened.resize(len, noted)?;
+    let file = open_locked(rt, path, Access::Create, noted)?;
+    let old = measure(&file, noted)?;
+    resize(&file, old, len, noted)?;
     sync_folder(rt, path, noted)?;
-    Ok(opened.into_file())
+    Ok(file)
 }
 
 // Makes a new file's name durable, if the file system can sync folders.
@@ -344,39 +276,9 @@ fn sync_folder<R: Files<File = File>>(
     requires no_fault { first_failure (answered noted.old) ≡ None }
     requires synced { IsTrue (is_file_synced (answered noted.old)) }
     ensures reported { first_failure (answered noted.new) ≡ failure_reported result }
-    ensures len { len_after (answered noted.new) ≡ len_after (answered noted.old) }
-    ensures opened { opened_in noted.new ≡ with_folder (folder_of path.now) (opened_in noted.old) }
+    ensures only { OpensOnlyFolder path.now noted.old noted.new }
     ensures synced { IfOk result (λ _. IsTrue (is_synced (answered noted.new))) }
 {
-    let folder = system::open_folder(rt, folder_of(path), noted)?;
-    match system::sync_folder(&folder, noted) {
-        Ok(()) => Ok(()),
-        Err(error) => folder_sync_result(error),
-    }
-}
-
-// Returns the folder of the file at a path.
-fn folder_of(path: &str) -> &str
-    ensures { result.now ≡ folder_of path.now }
-{
-    match Path::new(path).parent() {
-        Some(parent) => folder_or_here(parent.as_str()),
-        None => ".",
-    }
-}
-
-fn folder_or_here(folder: &str) -> &str
-    ensures { result.now ≡ folder_or_here (Some folder.now) }
-{
-    if folder.is_empty() { "." } else { folder }
-}
-
-// Returns the result of a failed folder sync: `Ok` if the file system does not support it.
-fn folder_sync_result(error: io::Error) -> Result<(), OpeningFault>
-    ensures { failure_reported result ≡ folder_failure (error_kind error) }
-{
-    match error.kind() {
-        ErrorKind::InvalidInput => Ok(()),
-        _ => Err(OpeningFault::from(error)),
-    }
+    system_calls::sync_folder_of(rt, path, noted)?;
+    Ok(())
 }

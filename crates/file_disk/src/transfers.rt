@@ -1,25 +1,15 @@
 //! Reads and writes of whole buffers. If a system call moves only a part, another one moves the rest. A system
 //! call that a signal interrupts is repeated.
 ghost use Rattle.std.specs.Prelude.{◌≡◌, ◌≤◌, ◌<◌, ◌*◌, ◌^◌, length, ◌∷◌, IfOk, IsErr, None, is_ok};
-ghost use Rattle.file_disk.specs.SystemCalls.{read_at_answer, write_at_answer, is_interruption, answered, IsPart};
+ghost use Rattle.system_calls.specs.SystemCalls.{read_at_answer, write_at_answer, answered, IsPart};
 ghost use Rattle.file_disk.specs.FileCalls.{read_entry, write_entry};
 ghost use Rattle.file_disk.specs.Transfers.{transfers_by, transfers_in, advanced, failed, Reads, Writes};
 
 use crate::file_calls::SECTOR;
-use crate::system::{self, SystemCallLog};
 use std::fs::File;
 use std::io;
 use std::io::ErrorKind;
-
-// Returns whether a signal interrupted the call.
-fn is_interrupted(kind: ErrorKind) -> bool
-    ensures { result ≡ is_interruption kind }
-{
-    match kind {
-        ErrorKind::Interrupted => true,
-        _ => false,
-    }
-}
+use system_calls::{SystemCallLog, retry};
 
 /// Writes these bytes, or a prefix of them, from this offset on.
 pub fn write_some(
@@ -32,13 +22,11 @@ pub fn write_some(
         ≡ (write_at_answer offset result, bytes.now) ∷ answered noted.old }
     ensures moved { IfOk result (IsPart (length bytes.now)) }
 {
-    for _ in 0..u64::MAX {
-        match system::write_at(file, bytes, offset, noted) {
-            Err(error) if is_interrupted(error.kind()) => {}
-            answer => return answer,
-        }
+    let mut call = || system_calls::write_at(file, bytes, offset, noted);
+    match retry(&mut call) {
+        Some(answer) => answer,
+        None => { Err(system_calls::log_failed_write(bytes, offset, ErrorKind::TimedOut, noted)) }
     }
-    Err(system::log_failed_write(bytes, offset, ErrorKind::TimedOut, noted))
 }
 
 /// Writes all of these bytes, beginning at this sector.
@@ -56,7 +44,7 @@ pub fn write_whole(
 {
     let start = first * SECTOR;
     if start.checked_add(bytes.len() as u64).is_none() {
-        let error = system::log_failed_write(bytes, start, ErrorKind::FileTooLarge, noted);
+        let error = system_calls::log_failed_write(bytes, start, ErrorKind::FileTooLarge, noted);
         return Err(error);
     }
     let mut at = write_some(file, bytes, start, noted)?;
@@ -77,13 +65,11 @@ fn read_some(
         ≡ (read_at_answer offset result, into.new) ∷ answered noted.old }
     ensures moved { IfOk result (IsPart (length into.new)) }
 {
-    for _ in 0..u64::MAX {
-        match system::read_at(file, into, offset, noted) {
-            Err(error) if is_interrupted(error.kind()) => {}
-            answer => return answer,
-        }
+    let mut call = || system_calls::read_at(file, into, offset, noted);
+    match retry(&mut call) {
+        Some(answer) => answer,
+        None => { Err(system_calls::log_failed_read(into, offset, ErrorKind::TimedOut, noted)) }
     }
-    Err(system::log_failed_read(into, offset, ErrorKind::TimedOut, noted))
 }
 
 /// Fills the buffer, reading from this sector on.
@@ -101,7 +87,7 @@ pub fn read_whole(
 {
     let start = first * SECTOR;
     if start.checked_add(into.len() as u64).is_none() {
-        let error = system::log_failed_read(into, start, ErrorKind::FileTooLarge, noted);
+        let error = system_calls::log_failed_read(into, start, ErrorKind::FileTooLarge, noted);
         return Err(error);
     }
     let mut at = read_some(file, into, start, noted)?;

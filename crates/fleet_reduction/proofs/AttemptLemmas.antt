@@ -1,43 +1,5 @@
 -- Attempts one after another: the properties that each attempt preserves, and that the attempts end.
-use Rattle.std.proofs.Common.{
-  ◌≡◌,
-  ◌∙◌,
-  ℕ,
-  zero,
-  suc,
-  ◌+◌,
-  ◌-◌,
-  ◌/◌,
-  ◌<◌,
-  ◌≤◌,
-  Bool,
-  true,
-  false,
-  cond,
-  not,
-  ◌==◌,
-  ◌&&◌,
-  List,
-  [],
-  ◌∷◌,
-  length,
-  replicate,
-  Option,
-  Some,
-  None,
-  Result,
-  Ok,
-  Err,
-  IfOk,
-  IsTrue,
-  refl,
-  sym,
-  ap,
-  subst,
-  inl,
-  inr,
-  arith,
-}
+use Rattle.std.proofs.Common.{◌≡◌, ◌∙◌, ℕ, zero, suc, ◌+◌, ◌-◌, ◌/◌, ◌<◌, ◌≤◌, Bool, true, false, cond, not, ◌==◌, ◌&&◌, List, [], ◌∷◌, length, replicate, Option, Some, None, IsTrue, refl, sym, ap, subst, inl, inr, arith}
 use Rattle.std.specs.Prelude.{min, nat_lt, nat_le}
 use Rattle.std.specs.List.{concat}
 use Rattle.std.proofs.lemmas.Bool.{and_from, and_parts, both_ways, cases_Bool, eqb-true, leb-true, lt-ltb, ltb-true, not_from_true}
@@ -55,7 +17,7 @@ use Rattle.plan_audit.specs.Locality.{IsPassing}
 use Rattle.plan_audit.specs.Passes.{passes}
 use Rattle.plan_audit.proofs.FleetLemmas.{used-most}
 use Rattle.plan_audit.proofs.LocalLemmas.{passing_is_local}
-use Rattle.move_ops.proofs.Times.{none_some, some_same}
+use Rattle.move_ops.proofs.OccurrenceLemmas.{none_some, some_same}
 use Rattle.seeded_search.proofs.SearchLemmas.{same_cost}
 use Rattle.anneal_search.specs.AttemptLaws.{AttemptsAreBounded, AttemptsKeepPassing}
 use Rattle.anneal_search.specs.AttemptState.{AttemptState}
@@ -157,11 +119,11 @@ module _ (p : Instance) (pins : Routes) (pinned : length pins ≡ p.fleet) (t : 
 
 -- the laws on the order of costs that the lemmas use
 pub record Order : Type 0 where
-  pub tells : CostBelowIsCorrect
+  pub below_is_correct : CostBelowIsCorrect
   pub at_most : BelowIsAtMost
 
 pub order_of : CostBelowIsCorrect → BelowIsAtMost → Order
-order_of tells at_most = record { tells = tells; at_most = at_most }
+order_of below_is_correct at_most = record { below_is_correct = below_is_correct; at_most = at_most }
 
 module _ (laws : Order) (p : Instance) (lilim : p.kind ≡ LiLim) where
   none_out : (routes : Routes) → serves_all p routes ≡ true → unplanned_count p routes ≡ 0
@@ -181,13 +143,13 @@ module _ (laws : Order) (p : Instance) (lilim : p.kind ≡ LiLim) where
   cheaper : (found plan : Routes) → serves_all p found ≡ true → serves_all p plan ≡ true → used_count found < used_count plan → cost_at_most (cost_of p found) (cost_of p plan) ≡ true
   cheaper found plan a b fewer =
       laws.at_most (cost_of p found) (cost_of p plan)
-      ((laws.tells (cost_of p found) (cost_of p plan)).1 (inr (none_out found a ∙ sym (none_out plan b), inl (omega (arith, counted found, counted plan, fewer)))))
+      ((laws.below_is_correct (cost_of p found) (cost_of p plan)).1 (inr (none_out found a ∙ sym (none_out plan b), inl (omega (arith, counted found, counted plan, fewer)))))
 
   -- a plan that leaves a request unplanned costs more than one with all requests
   dearer : (found plan : Routes) → serves_all p found ≡ false → serves_all p plan ≡ true → cost_at_most (cost_of p found) (cost_of p plan) ≡ false
   dearer found plan a b =
       not_from_true (cost_below (cost_of p plan) (cost_of p found))
-      ((laws.tells (cost_of p plan) (cost_of p found)).1 (inl (let h = none_out plan b in let g = some_out found a in omega (arith, h, g))))
+      ((laws.below_is_correct (cost_of p plan) (cost_of p found)).1 (inl (let h = none_out plan b in let g = some_out found a in omega (arith, h, g))))
 
 -- ---- one turn
 -- the properties of the state after one attempt, or after `size` is halved
@@ -322,7 +284,7 @@ module _ (laws : Below) (p : Instance) (pins : Routes) (pinned : length pins ≡
             better : cost_at_most (cost_of p back) (cost_of p t.plan) ≡ true
             better =
                 order.at_most (cost_of p back) (cost_of p t.plan)
-                ((order.tells (cost_of p back) (cost_of p t.plan)).1 (inl (let h = none_out order p lilim back f in let g = some_out order p lilim t.plan e in omega (arith, h, g))))
+                ((order.below_is_correct (cost_of p back) (cost_of p t.plan)).1 (inl (let h = none_out order p lilim back f in let g = some_out order p lilim t.plan e in omega (arith, h, g))))
     sinks_by order lilim false false e f =
         let begun : (unplanned_count p (picked marks t.plan) == 0) ≡ false = ap (serves_all p) (begins_whole p pins pinned t is size vehicles e marks found) ∙ e in
         let ends : last ≡ end = ap (λ b. cond (b && nat_lt 1 t.size) (min end (t.step + count / 8)) end) e in

@@ -17,7 +17,7 @@ use Rattle.plan_audit.specs.Passes.{feasible_alone, keeps_times}
 use Rattle.plan_audit.specs.Rules.{item_at}
 use Rattle.plan_audit.proofs.LocalLemmas.{passing_is_local}
 use Rattle.plan_audit.proofs.TestLemmas.{feasible_alone_decides_feasibility}
-use Rattle.move_ops.proofs.Times.{none_some, some_same, once_few, once_from, once_live, times, times-append}
+use Rattle.move_ops.proofs.OccurrenceLemmas.{none_some, some_same, once_few, once_from, once_known, times, times-append}
 use Rattle.fleet_reduction.specs.Fleets.{list_at, marked, picked, put_back, with_fleet}
 use Rattle.fleet_reduction.specs.Laws.{PickedPass, PutBackPass, PutBackUseFewer}
 
@@ -162,7 +162,7 @@ module _ (local : FeasibilityIsLocal) where
       (record {
         plan =
             once_from (with_fleet p n) (concat (picked kept routes)) (λ x. let a = once_few p (concat routes) h.plan x in let b = times_picked x kept routes in omega (arith, a, b))
-            (λ x some. once_live p (concat routes) h.plan x (let b = times_picked x kept routes in omega (arith, some, b)));
+            (λ x some. once_known p (concat routes) h.plan x (let b = times_picked x kept routes in omega (arith, some, b)));
         fleet = length_picked kept routes;
         feasible =
             all_picked (IsFeasibleAlone (with_fleet p n)) ((feasible_alone_decides_feasibility (with_fleet p n) []).0 (none_feasible (with_fleet p n))) kept routes

@@ -46,7 +46,7 @@ use Rattle.std.proofs.lemmas.List.Elements.{All-cons, All-filter, All-weaker}
 use Rattle.std.proofs.lemmas.List.Sums.{length-filter, sum_by-cons}
 use Rattle.route_sched.specs.Cost.{used_count}
 use Rattle.plan_audit.specs.Passes.{has}
-use Rattle.move_ops.proofs.Times.{none_here, one_here, times}
+use Rattle.move_ops.proofs.OccurrenceLemmas.{none_here, one_here, times}
 use Rattle.anneal_search.specs.Sorting.{put, put_all}
 use Rattle.anneal_search.proofs.SortLemmas.{all_put_all, length_put_all}
 use Rattle.fleet_reduction.specs.Fleets.{free_vehicles, has_any_stop, is_kept, is_longer, kept, marked, picked, put_back}

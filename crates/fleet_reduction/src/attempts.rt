@@ -1,5 +1,6 @@
 //! Attempts with fewer vehicles, one after another.
 ghost use Rattle.std.specs.Prelude.{◌≡◌, ◌+◌, ◌-◌, ◌<◌, ◌≤◌, ◌/◌, ◌^◌, ◌&&◌, if◌then◌else◌, not, true, None, Some, IfOk, MatchOption, length};
+ghost use Rattle.plan_types.specs.declared.limits.TheConstants.{MAX_STEPS};
 ghost use Rattle.plan_types.specs.declared.requests.Kind.TheVariants.{LiLim};
 ghost use Rattle.plan_types.specs.Cost.{cost_at_most};
 ghost use Rattle.plan_types.specs.Limits.{IsFleet};
@@ -25,6 +26,7 @@ use plan_types::{
     costs_compare_lexicographically,
 };
 use route_sched::{plan_cost, used_count};
+use seeded_search::SearchContext;
 use std::alloc::Global;
 
 /// The length by which a candidate may exceed the working plan in an attempt, in hundredths of the mean leg.
@@ -35,8 +37,9 @@ const ATTEMPT_HUNDREDTHS: u32 = 1000;
 /// no more. Returns the plan and the number of the step after the last one. If no attempt is left, the attempts end
 /// before all steps are made. In problems where vehicles do not count, there are no attempts.
 ///
-/// The plan must pass with the pins, there must be one pin per vehicle, and the steps must be below 2^60. Each
-/// attempt is logged when it ends.
+/// The plan must pass with the pins, there must be one pin per vehicle, and the steps must be below `MAX_STEPS`.
+/// Each attempt has a deviation of its own, so that of the context is not used. Each attempt is logged when it
+/// ends.
 ///
 /// Source: this project's own method, with absence counters (Christiaens and Vanden Berghe, 2020). Leaving the
 /// requests of some routes out is a common way to find a smaller fleet (Bent and Van Hentenryck 2006; Nagata and
@@ -44,22 +47,22 @@ const ATTEMPT_HUNDREDTHS: u32 = 1000;
 pub fn reduce_fleet<R: Log>(
     rt: &R,
     alloc: Global,
-    problem: &Problem,
-    pins: &Pins,
+    context: &SearchContext,
     plan: &Plan,
-    seed: u64,
     step: u64,
     count: u32,
 ) -> Result<Reduction, OutOfMemory>
-    requires pins { length pins.now.routes ≡ problem.now.fleet }
-    requires plan { passes problem.now pins.now.routes plan.now.routes ≡ true }
-    requires last { step + count ≤ 2 ^ 60 }
-    ensures { IfOk result (HasAttempts
-        (all_attempts problem.now pins.now.routes seed count step plan.now.routes)) }
+    requires pins { length context.now.pins.now.routes ≡ context.now.problem.now.fleet }
+    requires plan { let c = context.now in
+        passes c.problem.now c.pins.now.routes plan.now.routes ≡ true }
+    requires last { step + count ≤ MAX_STEPS }
+    ensures { let c = context.now in IfOk result (HasAttempts
+        (all_attempts c.problem.now c.pins.now.routes c.seed count step plan.now.routes)) }
 {
+    let problem = context.problem;
     let attempts = first_attempts(plan, step)?;
     let attempts = match problem.kind {
-        Kind::LiLim => attempts_from(rt, alloc, problem, pins, attempts, seed, count)?,
+        Kind::LiLim => attempts_from(rt, alloc, context, attempts, count)?,
         Kind::Vrp => attempts,
     };
     Ok(Reduction {
@@ -93,18 +96,18 @@ fn first_attempts(plan: &Plan, step: u64) -> Result<ReductionState, OutOfMemory>
 fn attempts_from<R: Log>(
     rt: &R,
     alloc: Global,
-    problem: &Problem,
-    pins: &Pins,
+    context: &SearchContext,
     attempts: ReductionState,
-    seed: u64,
     count: u32,
 ) -> Result<ReductionState, OutOfMemory>
-    requires pins { length pins.now.routes ≡ problem.now.fleet }
-    requires kind { (problem.now.kind ≡ LiLim) × IsFleet problem.now.fleet }
-    requires plan { passes problem.now pins.now.routes attempts.plan.routes ≡ true }
-    requires last { attempts.step + count ≤ 2 ^ 60 }
-    ensures { IfOk result (λ r. attempts_by r ≡ attempts_from problem.now pins.now.routes seed count
-        (attempts.step + count) (max_attempts problem.now pins.now.routes count (attempts_by attempts))
+    requires pins { length context.now.pins.now.routes ≡ context.now.problem.now.fleet }
+    requires kind { let p = context.now.problem.now in (p.kind ≡ LiLim) × IsFleet p.fleet }
+    requires plan { let c = context.now in
+        passes c.problem.now c.pins.now.routes attempts.plan.routes ≡ true }
+    requires last { attempts.step + count ≤ MAX_STEPS }
+    ensures { let p = context.now.problem.now in let pins = context.now.pins.now.routes in
+        IfOk result (λ r. attempts_by r ≡ attempts_from p pins context.now.seed count
+        (attempts.step + count) (max_attempts p pins count (attempts_by attempts))
         (attempts_by attempts)) }
 {
     picked_pass();
@@ -114,7 +117,7 @@ fn attempts_from<R: Log>(
     let end = attempts.step + u64::from(count);
     let mut attempts = attempts;
     while attempts.step < end && attempts.size > 0 {
-        attempts = next(rt, alloc, problem, pins, attempts, seed, count, end)?;
+        attempts = next(rt, alloc, context, attempts, count, end)?;
     }
     Ok(attempts)
 }
@@ -123,23 +126,25 @@ fn attempts_from<R: Log>(
 fn next<R: Log>(
     rt: &R,
     alloc: Global,
-    problem: &Problem,
-    pins: &Pins,
+    context: &SearchContext,
     attempts: ReductionState,
-    seed: u64,
     count: u32,
     end: u64,
 ) -> Result<ReductionState, OutOfMemory>
-    requires pins { (length pins.now.routes ≡ problem.now.fleet) × IsFleet problem.now.fleet }
-    requires between { IsBetweenAttempts problem.now pins.now.routes end (attempts_by attempts) }
-    requires on { can_continue problem.now pins.now.routes end (attempts_by attempts) ≡ true }
-    requires last { end ≤ 2 ^ 60 }
+    requires pins { let p = context.now.problem.now in
+        (length context.now.pins.now.routes ≡ p.fleet) × IsFleet p.fleet }
+    requires between { let c = context.now in
+        IsBetweenAttempts c.problem.now c.pins.now.routes end (attempts_by attempts) }
+    requires on { let c = context.now in
+        can_continue c.problem.now c.pins.now.routes end (attempts_by attempts) ≡ true }
+    requires last { end ≤ MAX_STEPS }
     requires few { end ≤ attempts.step + count }
-    ensures { IfOk result (λ r. attempts_by r
-        ≡ next problem.now pins.now.routes seed count end (attempts_by attempts)) }
+    ensures { let c = context.now in IfOk result (λ r. attempts_by r
+        ≡ next c.problem.now c.pins.now.routes c.seed count end (attempts_by attempts)) }
 {
     picked_pass();
     attempts_keep_passing();
+    let SearchContext { problem, pins, .. } = *context;
     let whole = serves_all(problem, &attempts.plan);
     let Some(subfleet) = subfleet(alloc, problem, pins, &attempts, whole)? else {
         return Ok(ReductionState {
@@ -149,8 +154,8 @@ fn next<R: Log>(
         });
     };
     let last = limit(whole, &attempts, count, end);
-    let attempt = run_attempt(alloc, problem, pins, &attempts, seed, last, &subfleet)?;
-    after_attempt(rt, alloc, problem, attempts, whole, &subfleet, attempt)
+    let attempt = run_attempt(alloc, context, &attempts, last, &subfleet)?;
+    after_attempt(rt, alloc, problem, attempts, &subfleet, attempt)
 }
 
 // Marks the vehicles of the next attempt, if there is one.
@@ -181,7 +186,7 @@ fn subfleet(
 // eighth of all steps.
 fn limit(whole: bool, attempts: &ReductionState, count: u32, end: u64) -> u64
     requires below { attempts.now.step < end }
-    requires last { end ≤ 2 ^ 60 }
+    requires last { end ≤ MAX_STEPS }
     ensures limit { result ≡ limit whole count end (attempts_by attempts.now) }
     ensures least { attempts.now.step ≤ result }
     ensures most { result ≤ end }
@@ -196,23 +201,31 @@ fn limit(whole: bool, attempts: &ReductionState, count: u32, end: u64) -> u64
 // Runs the attempt with these vehicles.
 fn run_attempt(
     alloc: Global,
-    problem: &Problem,
-    pins: &Pins,
+    context: &SearchContext,
     attempts: &ReductionState,
-    seed: u64,
     last: u64,
     subfleet: &[bool],
 ) -> Result<Reduction, OutOfMemory>
-    requires pins { length pins.now.routes ≡ problem.now.fleet }
-    requires plan { passes problem.now pins.now.routes attempts.now.plan.routes ≡ true }
-    requires subfleet { IsSubfleet problem.now pins.now.routes (attempts_by attempts.now) subfleet.now }
-    requires last { (attempts.now.step ≤ last) × (attempts.now.step < 2 ^ 60) × (last ≤ 2 ^ 60) }
+    requires pins { length context.now.pins.now.routes ≡ context.now.problem.now.fleet }
+    requires plan { let c = context.now in
+        passes c.problem.now c.pins.now.routes attempts.now.plan.routes ≡ true }
+    requires subfleet { let c = context.now in
+        IsSubfleet c.problem.now c.pins.now.routes (attempts_by attempts.now) subfleet.now }
+    requires last { let first = attempts.now.step in
+        (first ≤ last) × (first < MAX_STEPS) × (last ≤ MAX_STEPS) }
     requires few { last < attempts.now.step + 2 ^ 32 }
-    ensures { IfOk result (IsAttemptResult (attempt problem.now pins.now.routes seed last
-        (attempts_by attempts.now) subfleet.now)) }
+    ensures { let c = context.now in IfOk result (IsAttemptResult
+        (attempt c.problem.now c.pins.now.routes c.seed last (attempts_by attempts.now)
+        subfleet.now)) }
 {
     passing_is_local();
     picked_pass();
+    let SearchContext {
+        problem,
+        pins,
+        seed,
+        ..
+    } = *context;
     let smaller = with_fleet(problem, marked(subfleet) as u32)?;
     let pins = Pins {
         routes: picked(alloc, subfleet, pins.routes.as_slice())?,
@@ -222,16 +235,13 @@ fn run_attempt(
     };
     let deviation = mean_leg_share(problem, &attempts.plan, ATTEMPT_HUNDREDTHS);
     let most = (last - attempts.step) as u32;
-    attempt_steps(
-        alloc,
-        &smaller,
-        &pins,
-        &plan,
+    let context = SearchContext {
+        problem: &smaller,
+        pins: &pins,
         deviation,
         seed,
-        attempts.step,
-        most,
-    )
+    };
+    attempt_steps(alloc, &context, &plan, attempts.step, most)
 }
 
 // Returns the state after an attempt with these vehicles.
@@ -240,17 +250,16 @@ fn after_attempt<R: Log>(
     alloc: Global,
     problem: &Problem,
     attempts: ReductionState,
-    whole: bool,
     subfleet: &[bool],
     attempt: Reduction,
 ) -> Result<ReductionState, OutOfMemory>
     requires plan { IsPlan problem.now attempts.plan.routes }
     requires found { IsPlan problem.now (put_back subfleet.now attempt.plan.routes) }
-    requires whole { whole ≡ serves_all problem.now attempts.plan.routes }
     ensures { IfOk result (λ r. (pins : _) (end : AttemptState) → IsAttemptResult end attempt
         → attempts_by r ≡ after_attempt problem.now pins (attempts_by attempts) subfleet.now end) }
 {
     let ReductionState { plan, size, .. } = attempts;
+    let whole = serves_all(problem, &plan);
     let found = Plan {
         routes: put_back(alloc, subfleet, attempt.plan.routes.as_slice())?,
     };

@@ -6,7 +6,7 @@ use plan_types::OutOfMemory;
 use std::alloc::Global;
 
 /// A plan of all customers, feasible or not.
-#[derive(Drop)]
+#[derive(Clone, Drop)]
 pub(crate) struct Individual {
     /// The giant tour: the customers of all routes, route after route.
     pub tour: Vec<u32>,
@@ -40,19 +40,6 @@ impl Individual {
             distance: Price::MAX,
             excess: Load::ZERO,
             routes: 0,
-        })
-    }
-
-    /// Returns an equal individual.
-    pub(crate) fn copy(&self) -> Result<Individual, OutOfMemory> {
-        Ok(Individual {
-            tour: self.tour.clone()?,
-            begins: self.begins.clone()?,
-            previous: self.previous.clone()?,
-            next: self.next.clone()?,
-            distance: self.distance,
-            excess: self.excess,
-            routes: self.routes,
         })
     }
 
@@ -121,5 +108,16 @@ impl Individual {
     /// Makes the tour one route.
     pub(crate) fn unite(&mut self) {
         put_all(&mut self.begins, false);
+    }
+
+    /// Writes a route into the tour, from this place on. Returns the place after it.
+    pub(crate) fn put_route(&mut self, place: u32, customers: &[u32]) -> u32 {
+        put(&mut self.begins, place, !customers.is_empty());
+        let mut end = place;
+        for customer in customers {
+            put(&mut self.tour, end, *customer);
+            end = end.saturating_add(1);
+        }
+        end
     }
 }

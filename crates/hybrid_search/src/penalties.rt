@@ -1,56 +1,51 @@
 //! The penalty for overload, which follows the share of feasible individuals.
-use crate::cells::put;
 use crate::units::Price;
-use plan_types::OutOfMemory;
-use std::alloc::Global;
 
-// The number of individuals that the share is of, and after which the penalty changes.
+// The penalty changes after this number of individuals, by how many of them were feasible after education.
 const PERIOD: u32 = 100;
 
-// The share that is aimed at lies between these, in percent.
-const LEAST_FEASIBLE: usize = 15;
+// The penalty rises if fewer individuals of a period are feasible than the first number, and falls if more are than
+// the second.
+const FEW_FEASIBLE: u32 = 15;
 
-const MOST_FEASIBLE: usize = 25;
+const MANY_FEASIBLE: u32 = 25;
 
-/// The penalty for a unit of overload, and whether the last individuals were feasible.
-#[derive(Drop)]
+/// The penalty for a unit of overload.
+#[derive(Clone, Copy)]
 pub(crate) struct Penalties {
-    /// The penalty for a unit of overload.
     pub rate: Price,
-    recent: Vec<bool>,
+    // The number of individuals so far, and that of the feasible ones in this period.
     count: u32,
+    feasible: u32,
 }
 
 impl Penalties {
-    /// Returns the penalties at the beginning, with this rate.
-    pub(crate) fn new(alloc: Global, rate: Price) -> Result<Penalties, OutOfMemory> {
-        let recent = vec![in alloc; true; PERIOD as usize]?;
-        Ok(Penalties {
+    /// Returns the penalty at the beginning.
+    pub(crate) fn new(rate: Price) -> Penalties {
+        Penalties {
             rate,
-            recent,
             count: 0,
-        })
+            feasible: 0,
+        }
     }
 
     /// Notes whether an individual was feasible after education.
     pub(crate) fn note(&mut self, is_feasible: bool) {
-        put(&mut self.recent, self.count % PERIOD, is_feasible);
+        if self.count % PERIOD == 0 {
+            self.feasible = 0;
+        }
+        self.feasible = self.feasible.wrapping_add(u32::from(is_feasible));
         self.count = self.count.wrapping_add(1);
     }
 
-    /// Changes the rate if it is time to, and returns whether it did.
+    /// Changes the penalty at the end of a period. Returns whether this is one.
     pub(crate) fn adapt(&mut self) -> bool {
         if self.count % PERIOD != 0 {
             return false;
         }
-        let feasible = self
-            .recent
-            .iter()
-            .filter(|is_feasible| **is_feasible)
-            .count();
-        if feasible < LEAST_FEASIBLE {
+        if self.feasible < FEW_FEASIBLE {
             self.rate = self.rate.percent(120).min(Price::GREATEST_RATE);
-        } else if feasible > MOST_FEASIBLE {
+        } else if self.feasible > MANY_FEASIBLE {
             self.rate = self.rate.percent(85).max(Price::LEAST_RATE);
         }
         true

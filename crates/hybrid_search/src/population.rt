@@ -1,7 +1,7 @@
 //! The population: feasible individuals, and those that exceed the capacity.
 use crate::chance::Chance;
 use crate::individual::Individual;
-use crate::subpopulation::Subpopulation;
+use crate::subpopulation::{Member, Subpopulation};
 use crate::units::Price;
 use plan_types::OutOfMemory;
 use std::alloc::Global;
@@ -11,13 +11,6 @@ use std::alloc::Global;
 pub(crate) struct Population {
     feasible: Subpopulation,
     infeasible: Subpopulation,
-}
-
-/// An individual of a population, until that changes.
-#[derive(Clone, Copy)]
-pub(crate) struct Selected {
-    is_feasible: bool,
-    index: usize,
 }
 
 impl Population {
@@ -48,54 +41,31 @@ impl Population {
         self.infeasible.reprice(rate);
     }
 
-    /// Ranks the individuals, so that `select` knows which is better.
+    /// Computes the fitness of all individuals.
     pub(crate) fn rank(&mut self) {
         self.feasible.rank();
         self.infeasible.rank();
     }
 
-    /// Selects the better of two random individuals.
-    pub(crate) fn select(&self, chance: &mut Chance) -> Selected {
-        let one = self.draw(chance);
-        let two = self.draw(chance);
-        if self.fitness(one) < self.fitness(two) {
-            one
+    /// Selects the fitter of two random individuals. There is none if the population is empty.
+    pub(crate) fn select(&self, chance: &mut Chance) -> Option<&Individual> {
+        let one = self.draw(chance)?;
+        let two = self.draw(chance)?;
+        if one.fitness < two.fitness {
+            Some(&one.individual)
         } else {
-            two
+            Some(&two.individual)
         }
     }
 
-    fn draw(&self, chance: &mut Chance) -> Selected {
+    fn draw(&self, chance: &mut Chance) -> Option<&Member> {
         let feasible = self.feasible.len();
         let all = feasible.saturating_add(self.infeasible.len());
         let index = chance.below(u32::try_from(all).unwrap_or(0)) as usize;
         if index < feasible {
-            Selected {
-                is_feasible: true,
-                index,
-            }
+            self.feasible.member(index)
         } else {
-            Selected {
-                is_feasible: false,
-                index: index - feasible,
-            }
+            self.infeasible.member(index - feasible)
         }
-    }
-
-    fn part(&self, is_feasible: bool) -> &Subpopulation {
-        if is_feasible {
-            &self.feasible
-        } else {
-            &self.infeasible
-        }
-    }
-
-    fn fitness(&self, selected: Selected) -> u64 {
-        self.part(selected.is_feasible).fitness(selected.index)
-    }
-
-    /// Returns a selected individual.
-    pub(crate) fn individual(&self, selected: Selected) -> Option<&Individual> {
-        self.part(selected.is_feasible).individual(selected.index)
     }
 }

@@ -1,41 +1,49 @@
 //! Split (Prins 2004): cuts a giant tour into routes, at the least price for its order of customers.
-use crate::cells::{item, put};
+use crate::cells::{Table, item, put, put_all};
 use crate::individual::Individual;
 use crate::network::Network;
 use crate::units::{Load, Price};
 use plan_types::OutOfMemory;
 use std::alloc::Global;
 
-/// The table of split. Its cell (row, place) has the least price of the tour before the place, by as many routes
-/// as the row says; without a limit on the routes there is one row.
+/// The cheapest cuts of the beginnings of a tour.
+///
+/// The cell (row, place) is for the customers before the place. Without a limit on the routes all cells are in row
+/// 0; with a limit, row r is for exactly r routes.
 #[derive(Drop)]
 pub(crate) struct Split {
-    prices: Vec<Price>,
-    // The place at which the last route of that price begins.
-    begins: Vec<u32>,
-    width: u32,
+    cuts: Table<Cut>,
+    size: u32,
 }
 
-// The cells from which and to which routes lead.
+// A cut at its price, and the place at which its last route begins.
+#[derive(Clone, Copy, Default)]
+struct Cut {
+    price: Price,
+    begin: u32,
+}
+
+const NO_CUT: Cut = Cut {
+    price: Price::MAX,
+    begin: 0,
+};
+
+// A tour, and what its routes cost.
 #[derive(Clone, Copy)]
-struct Rows {
-    from: u32,
-    to: u32,
+struct Terms<'a> {
+    network: &'a Network,
+    tour: &'a [u32],
+    // The penalty for a unit of overload.
+    rate: Price,
 }
 
 impl Split {
     /// Returns an empty table.
     pub(crate) fn new(alloc: Global, network: &Network) -> Result<Split, OutOfMemory> {
-        let width = network.size.saturating_add(1);
-        let rows = u64::from(network.vehicles) + 1;
-        let cells = usize::try_from(rows * u64::from(width)).unwrap_or(0);
-        let prices = vec![in alloc; Price::MAX; cells]?;
-        let begins = vec![in alloc; 0; cells]?;
-        Ok(Split {
-            prices,
-            begins,
-            width,
-        })
+        let size = network.size;
+        let rows = network.vehicles.saturating_add(1);
+        let cuts = Table::new(alloc, rows, size.saturating_add(1))?;
+        Ok(Split { cuts, size })
     }
 
     /// Cuts the tour of an individual into at most `most` routes, at this rate for overload.
@@ -46,91 +54,81 @@ impl Split {
         rate: Price,
         most: u32,
     ) {
-        self.fill(network, &individual.tour, rate);
-        let routes = self.cut(individual, 0, 0);
-        if routes > most {
-            self.fill_rows(network, &individual.tour, rate, most);
+        let terms = Terms {
+            network,
+            tour: &individual.tour,
+            rate,
+        };
+        self.fill(terms);
+        if self.begin_routes(&mut individual.begins, 0, 0) > most {
+            self.fill_rows(terms, most);
             let row = self.best_row(most);
-            self.cut(individual, row, 1);
+            self.begin_routes(&mut individual.begins, row, 1);
         }
     }
 
-    fn cell(&self, row: u32, place: u32) -> u32 {
-        row.wrapping_mul(self.width).wrapping_add(place)
-    }
-
-    // Empties the first rows of the table, except for the tour's beginning.
+    // Empties the first rows, except for the cut before the first customer.
     fn clear(&mut self, rows: u32) {
-        let cells = self.cell(rows, 0);
-        for cell in 0..cells {
-            put(&mut self.prices, cell, Price::MAX);
-            put(&mut self.begins, cell, 0);
-        }
-        put(&mut self.prices, 0, Price::ZERO);
+        self.cuts.put_rows(rows, NO_CUT);
+        self.cuts.put(0, 0, Cut::default());
     }
 
-    // Fills the row for any number of routes.
-    fn fill(&mut self, network: &Network, tour: &[u32], rate: Price) {
+    // Fills row 0 with cuts into any number of routes.
+    fn fill(&mut self, terms: Terms) {
         self.clear(1);
-        for place in 0..network.size {
-            self.extend(network, tour, rate, place, Rows { from: 0, to: 0 });
+        for place in 0..self.size {
+            self.extend(terms, place, 0, 0);
         }
     }
 
     // Fills the rows up to that of `most` routes.
-    fn fill_rows(&mut self, network: &Network, tour: &[u32], rate: Price, most: u32) {
+    fn fill_rows(&mut self, terms: Terms, most: u32) {
         self.clear(most.saturating_add(1));
         for row in 0..most {
-            self.fill_row(network, tour, rate, row);
+            self.fill_row(terms, row);
         }
     }
 
-    fn fill_row(&mut self, network: &Network, tour: &[u32], rate: Price, row: u32) {
-        let rows = Rows {
-            from: row,
-            to: row.wrapping_add(1),
-        };
-        for place in row..network.size {
-            self.extend(network, tour, rate, place, rows);
+    fn fill_row(&mut self, terms: Terms, row: u32) {
+        for place in row..self.size {
+            self.extend(terms, place, row, row.wrapping_add(1));
         }
     }
 
-    // Enters each route that begins at this place, up to the first that has more than half again its capacity.
-    fn extend(&mut self, network: &Network, tour: &[u32], rate: Price, place: u32, rows: Rows) {
-        let mut price = item(&self.prices, self.cell(rows.from, place));
+    // Extends the cut before a place by each route that begins there, up to the first that is overloaded by more
+    // than half. The new cuts are in row `to`.
+    fn extend(&mut self, terms: Terms, place: u32, from: u32, to: u32) {
+        let network = terms.network;
+        let mut price = self.cuts.item(from, place).price;
         if price >= Price::MAX {
             return;
         }
-        let most = network.capacity.and_a_half();
         let mut load = Load::ZERO;
         let mut last = 0;
-        for end in place..network.size {
-            if load > most {
+        for end in place..self.size {
+            if load > network.capacity.and_a_half() {
                 return;
             }
-            let customer = item(tour, end);
+            let customer = item(terms.tour, end);
             load = load + network.site(customer).demand;
             price = price + network.leg(last, customer);
-            let whole = price + network.leg(customer, 0) + network.penalty(load, rate);
-            self.offer(self.cell(rows.to, end.wrapping_add(1)), whole, place);
+            let whole = price + network.leg(customer, 0) + network.penalty(load, terms.rate);
+            self.offer(to, end.wrapping_add(1), whole, place);
             last = customer;
         }
     }
 
-    fn offer(&mut self, cell: u32, price: Price, begin: u32) {
-        if price < item(&self.prices, cell) {
-            put(&mut self.prices, cell, price);
-            put(&mut self.begins, cell, begin);
+    fn offer(&mut self, row: u32, place: u32, price: Price, begin: u32) {
+        if price < self.cuts.item(row, place).price {
+            self.cuts.put(row, place, Cut { price, begin });
         }
     }
 
-    // Returns the number of routes, up to `most`, of the least price.
+    // Returns the number of routes, at most `most`, of the cheapest cut.
     fn best_row(&self, most: u32) -> u32 {
         let mut best = most;
-        let last = self.width.saturating_sub(1);
         for row in 1..most {
-            let price = item(&self.prices, self.cell(row, last));
-            if price < item(&self.prices, self.cell(best, last)) {
+            if self.cuts.item(row, self.size).price < self.cuts.item(best, self.size).price {
                 best = row;
             }
         }
@@ -139,17 +137,17 @@ impl Split {
 
     // Marks the beginnings of the routes, from the last one to the first, and returns their number. The row falls by
     // `step` with each route.
-    fn cut(&self, individual: &mut Individual, row: u32, step: u32) -> u32 {
-        individual.unite();
+    fn begin_routes(&self, begins: &mut [bool], row: u32, step: u32) -> u32 {
+        put_all(begins, false);
         let mut row = row;
-        let mut end = self.width.saturating_sub(1);
+        let mut end = self.size;
         let mut routes = 0u32;
-        for _ in 0..self.width {
+        for _ in 0..=self.size {
             if end == 0 {
                 return routes;
             }
-            end = item(&self.begins, self.cell(row, end));
-            put(&mut individual.begins, end, true);
+            end = self.cuts.item(row, end).begin;
+            put(begins, end, true);
             row = row.saturating_sub(step);
             routes = routes.wrapping_add(1);
         }

@@ -1,22 +1,25 @@
 -- The customers of a draft as requests.
-use Rattle.std.proofs.Common.{◌≡◌, ℕ, zero, suc, ◌+◌, ◌-◌, ◌<◌, ◌≤◌, false, cond, ⊎_elim, List, length, map, eqb, Option, Some, None, refl, sym, ap, subst, ◌∙◌, arith, ℤ, pos}
-use Rattle.std.specs.Prelude.{All, IfSome, unwrap_or, slice_index_or}
+use Rattle.std.proofs.Common.{◌≡◌, ℕ, zero, suc, ◌+◌, ◌-◌, ◌<◌, ◌≤◌, true, false, cond, ⊎_elim, List, length, map, eqb, Option, Some, None, refl, sym, ap, subst, ◌∙◌, arith, ℤ, pos, w32}
+use Rattle.std.specs.Prelude.{All, FitsSigned, IfSome, is_some, unwrap_or, slice_index_or}
 use Rattle.std.specs.List.{AllByRecursion, range_with_len}
 use Rattle.std.specs.Option.{option_or}
 use Rattle.std.specs.Prelude.{max}
-use Rattle.std.proofs.lemmas.Bool.{cases_lt, ne_eqb}
+use Rattle.std.proofs.lemmas.Bool.{cases_lt, false≢true, ne_eqb}
 use Rattle.std.proofs.lemmas.Int.{ints}
 use Rattle.std.proofs.lemmas.List.{get_or_past}
 use Rattle.std.proofs.lemmas.List.FromFn.{map-range_with_len_more}
 use Rattle.plan_types.specs.Instance.{Instance, IsTaken, first_some, stop_at, with_request}
-use Rattle.plan_types.specs.Limits.{IsDemand, IsVisit}
+use Rattle.plan_types.specs.Limits.{IsCapacity, IsDemand, IsDepot, IsFleet, IsVisit}
 use Rattle.plan_types.specs.Request.{IsRequest, stop_in}
 use Rattle.plan_types.specs.declared.requests.Request.{Request}
 use Rattle.plan_types.specs.declared.requests.Request.TheVariants.{Single}
+use Rattle.plan_types.specs.declared.requests.Stop.{Stop}
 use Rattle.instance_read.specs.declared.vrp_draft.VrpDraft.{VrpDraft}
 use Rattle.instance_read.specs.Drafts.{IsDraft, IsPoint, nodes_in}
 use Rattle.instance_read.specs.DraftLines.{customer_in, customers_in, demand_at, drafted_stop, point_at}
+use Rattle.instance_read.specs.Scales.{times_ℤ}
 use Rattle.instance_read.proofs.PairLemmas.{not_some, with_entry-last}
+use Rattle.instance_read.proofs.ScaleLemmas.{coordinate_fits, origin_within}
 
 -- an entry within its limits, or the default, which is within them too
 module _ {X : Type 0} (P : X → Type 0) (default : X) (here : P default) where
@@ -33,14 +36,37 @@ module _ {X : Type 0} (P : X → Type 0) (default : X) (here : P default) where
       (cases_lt n (length table))
 
 module _ (draft : VrpDraft) (valid : IsDraft draft) where
-  point_within : (n : ℕ) → IsPoint (point_at draft n)
-  point_within n = table_within IsPoint (pos 0, pos 0) ((grind (arith, ints), grind (arith, ints)), (grind (arith, ints), grind (arith, ints))) draft.coordinates.items valid.coordinates n
+  point_within : (n : ℕ) → IsPoint draft.scale (point_at draft n)
+  point_within n = table_within (IsPoint draft.scale) (pos 0, pos 0) (origin_within draft.scale) draft.coordinates.items valid.coordinates n
+
+  -- the products of a point with the scale fit their types
+  pub point_fits : (n : ℕ) (p : ℤ × ℤ) → p ≡ point_at draft n → FitsSigned w32 (times_ℤ draft.scale p.0) × FitsSigned w32 (times_ℤ draft.scale p.1)
+  point_fits n p is =
+      let P : ℤ × ℤ → Type 0 = λ q. FitsSigned w32 (times_ℤ draft.scale q.0) × FitsSigned w32 (times_ℤ draft.scale q.1) in
+      subst P (sym is) (coordinate_fits _ (point_within n).0, coordinate_fits _ (point_within n).1)
 
   pub demand_within : (n : ℕ) → IsDemand (demand_at draft n)
   demand_within n = table_within IsDemand (pos 0) (grind (arith, ints), grind (arith, ints)) draft.demands.items valid.demands n
 
   pub visit_within : (demand : ℤ) (n : ℕ) → IsVisit (drafted_stop draft demand n)
   visit_within demand n = record { x = (point_within n).0; y = (point_within n).1; window = omega arith; latest = omega arith; service = omega arith }
+
+  pub depot_valid : (s : Stop) → s ≡ drafted_stop draft (pos 0) 0 → IsDepot s
+  depot_valid s is = subst IsDepot (sym is) (record { number = refl; demand = refl; service = refl; visit = visit_within (pos 0) 0 })
+
+  capacity_within : (o : Option ℕ) → IfSome o IsCapacity → IsCapacity (unwrap_or o 0)
+  capacity_within None h = omega arith
+  capacity_within (Some n) h = h
+
+  pub capacity_valid : (n : ℕ) → n ≡ unwrap_or draft.capacity 0 → IsCapacity n
+  capacity_valid n is = subst IsCapacity (sym is) (capacity_within draft.capacity valid.capacity)
+
+  fleet_within : (o : Option ℕ) → is_some o ≡ true → IfSome o (λ n. (2 ≤ n) × (n ≤ 40001)) → IsFleet (unwrap_or o 0 - 1)
+  fleet_within None some h = absurd (false≢true some)
+  fleet_within (Some n) some h = (omega (arith, h.0), omega (arith, h.1))
+
+  pub fleet_valid : is_some draft.nodes ≡ true → (n : ℕ) → n ≡ nodes_in draft → IsFleet (n - 1)
+  fleet_valid some n is = let P : ℕ → Type 0 = λ k. IsFleet (k - 1) in subst P (sym is) (fleet_within draft.nodes some valid.nodes)
 
   max_nodes : (o : Option ℕ) → IfSome o (λ n. (2 ≤ n) × (n ≤ 40001)) → unwrap_or o 0 ≤ 40001
   max_nodes None h = omega arith

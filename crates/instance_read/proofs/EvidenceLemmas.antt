@@ -14,6 +14,7 @@ use Rattle.instance_read.specs.Lilim.{task_limits}
 use Rattle.instance_read.specs.Rows.{Row, rows_from, rows_of}
 use Rattle.instance_read.specs.TaskFaults.{LinesAbove}
 use Rattle.instance_read.specs.WordEvidence.{faulty_word, is_faulty, numbers_evidence}
+use Rattle.instance_read.specs.declared.scales.Scale.{Scale}
 use Rattle.instance_read.specs.declared.evidence.Evidence.{Evidence}
 use Rattle.instance_read.specs.declared.evidence.Evidence.TheVariants.{Word}
 use Rattle.instance_read.specs.declared.evidence.Field.{Field}
@@ -128,71 +129,72 @@ last_filled : (text : List ℕ) (rows after : List Row) → is_blank_line text �
 last_filled text [] after e h = e
 last_filled text (row ∷ rows) after e h = last_filled row.text rows after h.0 h.1
 
--- if another line comes before, the numbers are those of a task
-after_line : (kind : ReadFaultKind) (words : List (List ℕ)) (text : List ℕ)
-    → is_blank_line text ≡ false → row_evidence kind words text ≡ numbers_evidence kind task_fields task_limits words
-after_line kind words [] e = absurd (false≢true (sym e))
-after_line kind words (b ∷ text) e = refl
-
 pub above_here : (n : ℕ) (before : List Row) (row : Row) (after : List Row) → LinesAbove n (before ++ row ∷ after) → n < row.line
 above_here n [] row after l = l.0
 above_here n (r ∷ before) row after l = omega (arith, l.0, above_here r.line before row after l.1)
-
--- the line with a number, and the line before it, are found by the number
-spot_is : (n m : ℕ) (text : List ℕ) (before : List Row) (row : Row) (after : List Row) → LinesAbove m (before ++ row ∷ after) → row.line ≡ n
-    → line_and_previous n text (before ++ row ∷ after) ≡ (last_text text before, row.text)
-spot_is n m text [] row after l at = ap (λ b. cond b (text, row.text) (line_and_previous n row.text after)) (eq-eqb row.line n at)
-spot_is n m text (r ∷ before) row after l at =
-    let other : (r.line == n) ≡ false = false_from_ne_true (r.line == n) (λ e. omega (arith, eqb-true r.line n e, at, above_here r.line before row after l.1)) in
-    ap (λ b. cond b (text, r.text) (line_and_previous n r.text (before ++ row ∷ after))) other ∙ spot_is n r.line r.text before row after l.1 at
-
--- the first word at fault, if a line has one
-module _ (text : List ℕ) (before : List Row) (row : Row) (after : List Row) (splits : rows_of text ≡ before ++ row ∷ after) where
-  spot : line_and_previous row.line [] (rows_of text) ≡ (last_text [] before, row.text)
-  spot =
-      let P : List Row → Type 0 = LinesAbove 0 in
-      ap (line_and_previous row.line []) splits ∙ spot_is row.line 0 [] before row after (subst P splits (rows_above 0 (lines_of text))) refl
-
-  evidence_is : (kind : ReadFaultKind)
-      → let s = line_and_previous row.line [] (rows_of text) in line_evidence (rows_of text) s.0 s.1 kind ≡ line_evidence (rows_of text) (last_text [] before) row.text kind
-  evidence_is kind = ap (λ (s : List ℕ × List ℕ). line_evidence (rows_of text) s.0 s.1 kind) spot
-
-  filled : AreFilled (before ++ row ∷ after)
-  filled = let P : List Row → Type 0 = AreFilled in subst P splits (rows_filled 1 (lines_of text))
 
 pub numbers_show_the_word : NumbersShowTheWord
 numbers_show_the_word fields limits words =
     (λ e. found BadNumber fields limits 0 words (no_number limits 0 words e), λ e. found Range fields limits 0 words (beyond limits 0 words e))
 
--- the evidence for a task's line is that for its numbers
-task_numbers : (kind : ReadFaultKind) (header : Row) (before : List Row) (row : Row) (after : List Row) → AreFilled (header ∷ before ++ row ∷ after)
-    → numbers_evidence kind task_fields task_limits (words_of row.text) ≡ row_evidence kind (words_of row.text) (last_text header.text before)
-task_numbers kind header before row after h =
-    sym (after_line kind (words_of row.text) (last_text header.text before) (last_filled header.text before (row ∷ after) h.0 h.1))
+module _ (scale : Scale) where
+  -- if another line comes before, the numbers are those of a task
+  after_line : (kind : ReadFaultKind) (words : List (List ℕ)) (text : List ℕ)
+      → is_blank_line text ≡ false → row_evidence scale kind words text ≡ numbers_evidence kind task_fields (task_limits scale) words
+  after_line kind words [] e = absurd (false≢true (sym e))
+  after_line kind words (b ∷ text) e = refl
 
-shown : (rows : List Row) (before : List Row) (row : Row) (after : List Row) (kind : ReadFaultKind)
-    → AreFilled (before ++ row ∷ after) → IsWordFault kind → row_fault before row kind ≡ true
-    → IsFirstWord kind (fields_after before) (limits_after before) 0 (words_of row.text) (line_evidence rows (last_text [] before) row.text kind)
-shown rows [] row after BadNumber h of has = (numbers_show_the_word header_fields header_limits (words_of row.text)).0 has
-shown rows [] row after Range h of has = (numbers_show_the_word header_fields header_limits (words_of row.text)).1 has
-shown rows (header ∷ before) row after BadNumber h of has =
-    let P : Evidence → Type 0 = IsFirstWord BadNumber task_fields task_limits 0 (words_of row.text) in
-    subst P (task_numbers BadNumber header before row after h) ((numbers_show_the_word task_fields task_limits (words_of row.text)).0 has)
-shown rows (header ∷ before) row after Range h of has =
-    let P : Evidence → Type 0 = IsFirstWord Range task_fields task_limits 0 (words_of row.text) in
-    subst P (task_numbers Range header before row after h) ((numbers_show_the_word task_fields task_limits (words_of row.text)).1 has)
-shown rows before row after kind h of has = absurd of
+  -- the line with a number, and the line before it, are found by the number
+  spot_is : (n m : ℕ) (text : List ℕ) (before : List Row) (row : Row) (after : List Row) → LinesAbove m (before ++ row ∷ after) → row.line ≡ n
+      → line_and_previous n text (before ++ row ∷ after) ≡ (last_text text before, row.text)
+  spot_is n m text [] row after l at = ap (λ b. cond b (text, row.text) (line_and_previous n row.text after)) (eq-eqb row.line n at)
+  spot_is n m text (r ∷ before) row after l at =
+      let other : (r.line == n) ≡ false = false_from_ne_true (r.line == n) (λ e. omega (arith, eqb-true r.line n e, at, above_here r.line before row after l.1)) in
+      ap (λ b. cond b (text, r.text) (line_and_previous n r.text (before ++ row ∷ after))) other ∙ spot_is n r.line r.text before row after l.1 at
 
-of_fault : (text : List ℕ) (line : ℕ) (kind : ReadFaultKind) (class : Class)
-    → LilimFault text class line kind → IsWordFault kind → ShowsWord text (record { line = line; kind = kind })
-of_fault text line kind OfLine f of =
-    let rows = rows_of text in
-    let P : Evidence → Type 0 = IsFirstWord kind (fields_after f.0) (limits_after f.0) 0 (words_of f.1.text) in
-    let is = sym (evidence_is text f.0 f.1 f.2 f.3 kind) ∙ ap (λ n. line_evidence rows (line_and_previous n [] rows).0 (line_and_previous n [] rows).1 kind) f.4 in
-    (f.0, f.1, f.2, f.3, f.4, subst P is (shown rows f.0 f.1 f.2 kind (filled text f.0 f.1 f.2 f.3) of f.5))
-of_fault text line BadNumber OfText f of = absurd f
-of_fault text line Range OfText f of = absurd f
-of_fault text line kind OfText f of = absurd of
+  -- the first word at fault, if a line has one
+  module _ (text : List ℕ) (before : List Row) (row : Row) (after : List Row) (splits : rows_of text ≡ before ++ row ∷ after) where
+    spot : line_and_previous row.line [] (rows_of text) ≡ (last_text [] before, row.text)
+    spot =
+        let P : List Row → Type 0 = LinesAbove 0 in
+        ap (line_and_previous row.line []) splits ∙ spot_is row.line 0 [] before row after (subst P splits (rows_above 0 (lines_of text))) refl
+
+    evidence_is : (kind : ReadFaultKind)
+        → let s = line_and_previous row.line [] (rows_of text) in line_evidence scale (rows_of text) s.0 s.1 kind ≡ line_evidence scale (rows_of text) (last_text [] before) row.text kind
+    evidence_is kind = ap (λ (s : List ℕ × List ℕ). line_evidence scale (rows_of text) s.0 s.1 kind) spot
+
+    filled : AreFilled (before ++ row ∷ after)
+    filled = let P : List Row → Type 0 = AreFilled in subst P splits (rows_filled 1 (lines_of text))
+
+  -- the evidence for a task's line is that for its numbers
+  task_numbers : (kind : ReadFaultKind) (header : Row) (before : List Row) (row : Row) (after : List Row) → AreFilled (header ∷ before ++ row ∷ after)
+      → numbers_evidence kind task_fields (task_limits scale) (words_of row.text) ≡ row_evidence scale kind (words_of row.text) (last_text header.text before)
+  task_numbers kind header before row after h =
+      sym (after_line kind (words_of row.text) (last_text header.text before) (last_filled header.text before (row ∷ after) h.0 h.1))
+
+  shown : (rows : List Row) (before : List Row) (row : Row) (after : List Row) (kind : ReadFaultKind)
+      → AreFilled (before ++ row ∷ after) → IsWordFault kind → row_fault scale before row kind ≡ true
+      → IsFirstWord kind (fields_after before) (limits_after scale before) 0 (words_of row.text) (line_evidence scale rows (last_text [] before) row.text kind)
+  shown rows [] row after BadNumber h of has = (numbers_show_the_word header_fields header_limits (words_of row.text)).0 has
+  shown rows [] row after Range h of has = (numbers_show_the_word header_fields header_limits (words_of row.text)).1 has
+  shown rows (header ∷ before) row after BadNumber h of has =
+      let P : Evidence → Type 0 = IsFirstWord BadNumber task_fields (task_limits scale) 0 (words_of row.text) in
+      subst P (task_numbers BadNumber header before row after h) ((numbers_show_the_word task_fields (task_limits scale) (words_of row.text)).0 has)
+  shown rows (header ∷ before) row after Range h of has =
+      let P : Evidence → Type 0 = IsFirstWord Range task_fields (task_limits scale) 0 (words_of row.text) in
+      subst P (task_numbers Range header before row after h) ((numbers_show_the_word task_fields (task_limits scale) (words_of row.text)).1 has)
+  shown rows before row after kind h of has = absurd of
+
+  of_fault : (text : List ℕ) (line : ℕ) (kind : ReadFaultKind) (class : Class)
+      → LilimFault scale text class line kind → IsWordFault kind → ShowsWord scale text (record { line = line; kind = kind })
+  of_fault text line kind OfLine f of =
+      let rows = rows_of text in
+      let P : Evidence → Type 0 = IsFirstWord kind (fields_after f.0) (limits_after scale f.0) 0 (words_of f.1.text) in
+      let is = sym (evidence_is text f.0 f.1 f.2 f.3 kind) ∙ ap (λ n. line_evidence scale rows (line_and_previous n [] rows).0 (line_and_previous n [] rows).1 kind) f.4 in
+      (f.0, f.1, f.2, f.3, f.4, subst P is (shown rows f.0 f.1 f.2 kind (filled text f.0 f.1 f.2 f.3) of f.5))
+  of_fault text line BadNumber OfText f of = absurd f
+  of_fault text line Range OfText f of = absurd f
+  of_fault text line kind OfText f of = absurd of
 
 pub evidence_shows_the_word : EvidenceShowsTheWord
-evidence_shows_the_word text fault h of = of_fault text fault.line fault.kind h.0 h.1 of
+evidence_shows_the_word scale text fault h of = of_fault scale text fault.line fault.kind h.0 h.1 of

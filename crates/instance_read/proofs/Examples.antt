@@ -12,6 +12,7 @@ use Rattle.instance_read.specs.Lilim.{customers_of}
 use Rattle.instance_read.specs.Pairs.{is_mismatched, pairs_of, task_of}
 use Rattle.instance_read.specs.Rows.{Row, rows_from, rows_of}
 use Rattle.instance_read.specs.Solomon.{IsProblemOf, SolomonFault, heading, line_fault}
+use Rattle.instance_read.specs.declared.scales.Scale.TheVariants.{One, Thousand}
 use Rattle.instance_read.specs.declared.vrp_lines.Section.TheVariants.{AfterEnd}
 use Rattle.instance_read.specs.VrpLines.{key_of, value_of, placed_from, placed_of, end_place}
 use Rattle.instance_read.specs.Vrp.{lacks_key, vrp_problem, end_line}
@@ -37,7 +38,7 @@ end_at : end_line V ≡ 19
 unfolding lines_of pieces_of words_of number_of whole_of digits_of is_digits rows_from key_of value_of placed_from
 end_at = refl
 
-last_request : (vrp_problem (placed_of V)).requests ≡ (
+last_request : (vrp_problem One (placed_of V)).requests ≡ (
   1,
   Single
       (record { number = 1; x = pos 3; y = pos 4; demand = pos 6; earliest = 0; latest = 100000000; service = 0 }),
@@ -72,7 +73,7 @@ abbrev S : List ℕ
 S = codes "day" ++ line_end (line_end (codes "Vehicle")) ++ line_end (codes "NUMBER CAPACITY") ++ line_end (codes "2 10") ++ line_end (codes "CUSTOMER")
     ++ line_end (codes "CUST NO. XCOORD.") ++ line_end (codes "0 0 0 0 0 100 0") ++ line_end (codes "7 3 4 6 5 50 2") ++ line_end []
 
-single : IsProblemOf (rows_of S) (record {
+single : IsProblemOf One (rows_of S) (record {
   kind = LiLim;
   depot = record { number = 0; x = pos 0; y = pos 0; demand = pos 0; earliest = 0; latest = 100; service = 0 };
   capacity = 10;
@@ -84,7 +85,7 @@ unfolding lines_of pieces_of words_of number_of whole_of digits_of is_digits row
 single = refl
 
 -- a text without the word VEHICLE, and a line after six others with a negative demand
-no_vehicle : SolomonFault (codes "day" ++ line_end (line_end (codes "NUMBER"))) OfLine 3 MissingKey
+no_vehicle : SolomonFault One (codes "day" ++ line_end (line_end (codes "NUMBER"))) OfLine 3 MissingKey
 unfolding lines_of pieces_of words_of rows_from
 no_vehicle = (
   record { line = 1; text = codes "day" } ∷ [],
@@ -98,6 +99,18 @@ no_vehicle = (
 name : Row
 name = record { line = 1; text = codes "day" }
 
-negative : line_fault heading (name ∷ name ∷ name ∷ name ∷ name ∷ name ∷ []) (record { line = 7; text = codes "0 0 0 -1 0 100 0" }) Range ≡ true
+negative : line_fault One heading (name ∷ name ∷ name ∷ name ∷ name ∷ name ∷ []) (record { line = 7; text = codes "0 0 0 -1 0 100 0" }) Range ≡ true
 unfolding name words_of number_of whole_of digits_of is_digits
 negative = refl
+
+-- the same text with scale 1000: the demand stays
+thousandfold : IsProblemOf Thousand (rows_of S) (record {
+  kind = LiLim;
+  depot = record { number = 0; x = pos 0; y = pos 0; demand = pos 0; earliest = 0; latest = 100000; service = 0 };
+  capacity = 10;
+  fleet = 2;
+  requests = (7, Single (record { number = 7; x = pos 3000; y = pos 4000; demand = pos 6; earliest = 5000; latest = 50000; service = 2000 })) ∷ [];
+  next_number = 8;
+})
+unfolding lines_of pieces_of words_of number_of whole_of digits_of is_digits rows_from task_of
+thousandfold = refl

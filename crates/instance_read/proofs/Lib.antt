@@ -1,5 +1,6 @@
 -- The lemma files of this crate.
 pub mod RowLemmas
+pub mod ScaleLemmas
 pub mod FieldLemmas
 pub mod KindLemmas
 pub mod NumberLemmas

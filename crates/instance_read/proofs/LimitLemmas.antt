@@ -4,37 +4,27 @@ use Rattle.std.specs.Prelude.{int_lt, ◌≤ℤ◌, is_none, ◌==◌, unwrap_or
 use Rattle.std.specs.Int.RustNames.{unsigned_abs}
 use Rattle.std.specs.List.{AllByRecursion}
 use Rattle.std.proofs.lemmas.Bool.{or_parts, eqb-true, ltb-true, ltb-false, false≢true, false_from_ne_true, not-false}
-use Rattle.std.proofs.lemmas.Int.{ints}
 use Rattle.text_lines.specs.Numbers.{number_of}
 use Rattle.text_lines.specs.Words.{words_of}
 use Rattle.plan_types.specs.Limits.{IsVisit}
 use Rattle.instance_read.specs.declared.faults.ReadFaultKind.TheVariants.{BadNumber, Range, FieldCount, TaskOrder, EmptyWindow}
+use Rattle.instance_read.specs.declared.scales.Scale.{Scale}
 use Rattle.instance_read.specs.declared.tasks.FleetLine.{FleetLine}
 use Rattle.instance_read.specs.declared.tasks.Task.{Task}
 use Rattle.instance_read.specs.Fields.{field, value_at, passes_test, is_beyond, any_beyond, has_no_number, is_no_number, exceeds}
 use Rattle.instance_read.specs.FieldValues.{IsValue, numbers_fault}
 use Rattle.instance_read.specs.Lilim.{header_fault, header_limits, is_out_of_order, stop_fault, task_limits}
-use Rattle.instance_read.specs.Pairs.{task_of}
+use Rattle.instance_read.specs.Pairs.{task_in, task_of}
 use Rattle.instance_read.specs.Rows.{Row}
+use Rattle.instance_read.specs.Scales.{coordinate_range, service_range, time_range, unscaled_limit}
 use Rattle.instance_read.specs.Solomon.{customer_limits}
 use Rattle.instance_read.specs.Tables.{AreLoads, AreTasks, HeaderKeepsLimits, IsCustomer, AscendsFrom, IsHeader}
 use Rattle.instance_read.specs.TaskFaults.{AreStopLimits, HasNoKind, HasNoStopFault}
+use Rattle.instance_read.proofs.ScaleLemmas.{coordinate_within, magnitude_le, times_ordered, times_within, within_from}
 use Rattle.instance_read.proofs.TaskLemmas.{from_zero}
-
-pub within_from : (least most z : ℤ) → is_beyond (least, most) z ≡ false → (least ≤ℤ z) × (z ≤ℤ most)
-within_from least most z e =
-    let parts = or_parts (int_lt z least) (int_lt most z) e in
-    let low = parts.0 in
-    let high = parts.1 in
-    (grind (arith, ints, low), grind (arith, ints, high))
 
 most_from : (most n : ℕ) → int_lt (pos most) (pos n) ≡ false → n ≤ most
 most_from most n e = ltb-false most n e
-
--- a number in 0..most has an absolute value of at most `most`
-magnitude_le : (most : ℕ) (z : ℤ) → is_beyond (pos 0, pos most) z ≡ false → unsigned_abs z ≤ most
-magnitude_le most (pos n) e = most_from most n (or_parts (int_lt (pos n) (pos 0)) (int_lt (pos most) (pos n)) e).1
-magnitude_le most (negsuc n) e = absurd (false≢true (sym e))
 
 -- each number of a line without a fault keeps its limits
 value_here : (limits : ℤ × ℤ) (number : Option ℤ) → is_none number ≡ false → passes_test (is_beyond limits) number ≡ false → IsValue limits number (unwrap_or number (pos 0))
@@ -78,22 +68,28 @@ two_limits_of words header none is =
     }
 
 -- the time window of a task without a fault is not empty
-window_from : (e l : ℤ) → is_beyond (pos 0, pos 100000000) e ≡ false → is_beyond (pos 0, pos 100000000) l ≡ false → int_lt l e ≡ false → unsigned_abs e ≤ unsigned_abs l
-window_from (pos a) (pos b) low high h = ltb-false b a h
-window_from (pos a) (negsuc b) low high h = absurd (false≢true (sym high))
-window_from (negsuc a) l low high h = absurd (false≢true (sym low))
+window_from : (most : ℕ) (e l : ℤ) → is_beyond (pos 0, pos most) e ≡ false → is_beyond (pos 0, pos most) l ≡ false → int_lt l e ≡ false → unsigned_abs e ≤ unsigned_abs l
+window_from most (pos a) (pos b) low high h = ltb-false b a h
+window_from most (pos a) (negsuc b) low high h = absurd (false≢true (sym high))
+window_from most (negsuc a) l low high h = absurd (false≢true (sym low))
 
 exceeds-is : (a b : ℤ) (x y : Option ℤ) → x ≡ Some a → y ≡ Some b → exceeds x y ≡ int_lt b a
 exceeds-is a b x y p q = ap (λ o. exceeds o y) p ∙ ap (λ o. exceeds (Some a) o) q
 
 -- the limits of a task's fields, and those of a customer's
-pub task_stop_limits : AreStopLimits task_limits
-task_stop_limits = record { seven = omega arith; number = refl; x = refl; y = refl; demand = refl; earliest = refl; latest = refl; service = refl }
+pub task_stop_limits : (scale : Scale) → AreStopLimits scale (task_limits scale)
+task_stop_limits scale = record { seven = omega arith; number = refl; x = refl; y = refl; demand = refl; earliest = refl; latest = refl; service = refl }
 
-pub customer_stop_limits : AreStopLimits customer_limits
-customer_stop_limits = record { seven = omega arith; number = refl; x = refl; y = refl; demand = refl; earliest = refl; latest = refl; service = refl }
+pub customer_stop_limits : (scale : Scale) → AreStopLimits scale (customer_limits scale)
+customer_stop_limits scale = record { seven = omega arith; number = refl; x = refl; y = refl; demand = refl; earliest = refl; latest = refl; service = refl }
 
-module _ (limits : List (ℤ × ℤ)) (are : AreStopLimits limits) where
+pub task_limits_are : (scale : Scale) (limits : List (ℤ × ℤ)) → limits ≡ task_limits scale → AreStopLimits scale limits
+task_limits_are scale limits is = subst (AreStopLimits scale) (sym is) (task_stop_limits scale)
+
+pub customer_limits_are : (scale : Scale) (limits : List (ℤ × ℤ)) → limits ≡ customer_limits scale → AreStopLimits scale limits
+customer_limits_are scale limits is = subst (AreStopLimits scale) (sym is) (customer_stop_limits scale)
+
+module _ (scale : Scale) (limits : List (ℤ × ℤ)) (are : AreStopLimits scale limits) where
   -- the task of a line without a fault, after the task before it
   module _ (previous : Option Task) (row : Row) (none : HasNoKind (stop_fault limits previous (words_of row.text))) where
     counted : length (words_of row.text) ≡ length limits
@@ -105,18 +101,20 @@ module _ (limits : List (ℤ × ℤ)) (are : AreStopLimits limits) where
         let P : ℤ × ℤ → Type 0 = λ m. IsValue m (field (words_of row.text) k) (value_at (words_of row.text) k) in
         subst P is (values_of limits (words_of row.text) k (omega (arith, counted)) (none BadNumber) (none Range) (omega (arith, are.seven)))
 
-    pub visit_of : IsVisit (task_of row).stop
+    pub visit_of : IsVisit (task_in scale row).stop
     unfolding task_of
     visit_of =
         let words = words_of row.text in
-        let e = value 4 (pos 0, pos 100000000) (omega arith) are.earliest in
-        let l = value 5 (pos 0, pos 100000000) (omega arith) are.latest in
+        let e = value 4 (time_range scale) (omega arith) are.earliest in
+        let l = value 5 (time_range scale) (omega arith) are.latest in
+        let window = window_from (unscaled_limit scale 100000000) (value_at words 4) (value_at words 5) e.1 l.1
+        (sym (exceeds-is (value_at words 4) (value_at words 5) (field words 4) (field words 5) e.0 l.0) ∙ none EmptyWindow) in
         record {
-          x = within_from (negsuc 999999) (pos 1000000) (value_at words 1) (value 1 (negsuc 999999, pos 1000000) (omega arith) are.x).1;
-          y = within_from (negsuc 999999) (pos 1000000) (value_at words 2) (value 2 (negsuc 999999, pos 1000000) (omega arith) are.y).1;
-          window = window_from (value_at words 4) (value_at words 5) e.1 l.1 (sym (exceeds-is (value_at words 4) (value_at words 5) (field words 4) (field words 5) e.0 l.0) ∙ none EmptyWindow);
-          latest = magnitude_le 100000000 (value_at words 5) l.1;
-          service = magnitude_le 1000000 (value_at words 6) (value 6 (pos 0, pos 1000000) (omega arith) are.service).1;
+          x = coordinate_within scale (value_at words 1) (value 1 (coordinate_range scale) (omega arith) are.x).1;
+          y = coordinate_within scale (value_at words 2) (value 2 (coordinate_range scale) (omega arith) are.y).1;
+          window = times_ordered scale (unsigned_abs (value_at words 4)) (unsigned_abs (value_at words 5)) window;
+          latest = times_within scale 100000000 (value_at words 5) l.1;
+          service = times_within scale 1000000 (value_at words 6) (value 6 (service_range scale) (omega arith) are.service).1;
         }
 
     number_small : (task_of row).stop.number ≤ 40000
@@ -131,7 +129,7 @@ module _ (limits : List (ℤ × ℤ)) (are : AreStopLimits limits) where
         let P : ℤ → Type 0 = λ most. demand ≤ℤ most in
         subst P are.demand (within_from l.0 l.1 demand (value 3 l (omega arith) refl).1).1
 
-    pub customer_of : 0 < (task_of row).stop.number → IsCustomer (task_of row)
+    pub customer_of : 0 < (task_of row).stop.number → IsCustomer (task_in scale row)
     customer_of above = record { stop = record { from_one = omega arith; to_max = number_small; visit = visit_of }; demand = demand_small }
 
     pub in_order : is_out_of_order previous (pos (task_of row).stop.number) ≡ false
@@ -151,12 +149,12 @@ module _ (limits : List (ℤ × ℤ)) (are : AreStopLimits limits) where
   rises : (previous : Task) (row : Row) → HasNoKind (stop_fault limits (Some previous) (words_of row.text)) → previous.stop.number < (task_of row).stop.number
   rises previous row none = ltb-true previous.stop.number (task_of row).stop.number (not-false (int_lt (pos previous.stop.number) (pos (task_of row).stop.number)) (in_order (Some previous) row none))
 
-  ascending_tasks : (previous : Task) (rows : List Row) → HasNoStopFault limits (Some previous) rows → AscendsFrom previous.stop.number (map task_of rows)
+  ascending_tasks : (previous : Task) (rows : List Row) → HasNoStopFault limits (Some previous) rows → AscendsFrom previous.stop.number (map (task_in scale) rows)
   ascending_tasks previous [] h = tt
   ascending_tasks previous (row ∷ rows) h =
       (rises previous row (none_head (Some previous) row rows h), ascending_tasks (task_of row) rows (none_tail (Some previous) row rows h))
 
-  valid_tasks : (previous : Task) (rows : List Row) → HasNoStopFault limits (Some previous) rows → AllByRecursion IsCustomer (map task_of rows)
+  valid_tasks : (previous : Task) (rows : List Row) → HasNoStopFault limits (Some previous) rows → AllByRecursion IsCustomer (map (task_in scale) rows)
   valid_tasks previous [] h = tt
   valid_tasks previous (row ∷ rows) h =
       let none = none_head (Some previous) row rows h in
@@ -165,30 +163,31 @@ module _ (limits : List (ℤ × ℤ)) (are : AreStopLimits limits) where
 zero_from : (n : ℕ) → is_beyond (pos 0, pos 0) (pos n) ≡ false → n ≡ 0
 zero_from n e = omega (arith, most_from 0 n (or_parts (int_lt (pos n) (pos 0)) (int_lt (pos 0) (pos n)) e).1)
 
-pub are_tasks : (limits : List (ℤ × ℤ)) (are : AreStopLimits limits) (depot : Row) (customers : List Row) → HasNoStopFault limits None (depot ∷ customers)
-    → AreTasks (task_of depot) (map task_of customers)
-are_tasks limits are depot customers h =
-    let none = none_head limits are None depot customers h in
-    let rest = none_tail limits are None depot customers h in
-    let first : (task_of depot).stop.number ≡ 0 = zero_from (task_of depot).stop.number (in_order limits are None depot none) in
-    let P : ℕ → Type 0 = λ n. AscendsFrom n (map task_of customers) in
+pub are_tasks : (scale : Scale) (limits : List (ℤ × ℤ)) (are : AreStopLimits scale limits) (depot : Row) (customers : List Row) → HasNoStopFault limits None (depot ∷ customers)
+    → AreTasks (task_in scale depot) (map (task_in scale) customers)
+are_tasks scale limits are depot customers h =
+    let none = none_head scale limits are None depot customers h in
+    let rest = none_tail scale limits are None depot customers h in
+    let first : (task_of depot).stop.number ≡ 0 = zero_from (task_of depot).stop.number (in_order scale limits are None depot none) in
+    let P : ℕ → Type 0 = λ n. AscendsFrom n (map (task_in scale) customers) in
     record {
       first = first;
-      visit = visit_of limits are None depot none;
-      valid = valid_tasks limits are (task_of depot) customers rest;
-      ascending = subst P first (ascending_tasks limits are (task_of depot) customers rest);
+      visit = visit_of scale limits are None depot none;
+      valid = valid_tasks scale limits are (task_of depot) customers rest;
+      ascending = subst P first (ascending_tasks scale limits are (task_of depot) customers rest);
     }
 
 -- no customer's demand is negative
-load_of : (previous : Option Task) (row : Row) → HasNoKind (stop_fault customer_limits previous (words_of row.text)) → pos 0 ≤ℤ (task_of row).stop.demand
+load_of : (scale : Scale) (previous : Option Task) (row : Row) → HasNoKind (stop_fault (customer_limits scale) previous (words_of row.text)) → pos 0 ≤ℤ (task_of row).stop.demand
 unfolding task_of
-load_of previous row none =
+load_of scale previous row none =
     (within_from (pos 0) (pos 1000000) (value_at (words_of row.text) 3)
-    (value customer_limits customer_stop_limits previous row none 3 (pos 0, pos 1000000) (omega arith) refl).1).0
+    (value scale (customer_limits scale) (customer_stop_limits scale) previous row none 3 (pos 0, pos 1000000) (omega arith) refl).1).0
 
-pub are_loads : (previous : Option Task) (rows : List Row) → HasNoStopFault customer_limits previous rows → AreLoads (map task_of rows)
-are_loads previous [] h = tt
-are_loads previous (row ∷ rows) h = (
-  load_of previous row (none_head customer_limits customer_stop_limits previous row rows h),
-  are_loads (Some (task_of row)) rows (none_tail customer_limits customer_stop_limits previous row rows h),
-)
+pub are_loads : (scale : Scale) (previous : Option Task) (rows : List Row) → HasNoStopFault (customer_limits scale) previous rows → AreLoads (map (task_in scale) rows)
+are_loads scale previous [] h = tt
+are_loads scale previous (row ∷ rows) h =
+    let are = customer_stop_limits scale in (
+      load_of scale previous row (none_head scale (customer_limits scale) are previous row rows h),
+      are_loads scale (Some (task_of row)) rows (none_tail scale (customer_limits scale) are previous row rows h),
+    )

@@ -10,6 +10,7 @@ use Rattle.instance_read.specs.declared.vrp_lines.Key.TheVariants.{Dimension, Ca
 use Rattle.instance_read.specs.declared.vrp_lines.Section.{Section}
 use Rattle.instance_read.specs.declared.vrp_lines.Section.TheVariants.{Outside, CoordinateLine, DemandLine, DepotLine, AfterEnd}
 use Rattle.instance_read.specs.Drafts.{FitsSection, IsDraft, TakesLine, entry_at, is_taken, line_fault, nodes_in, node_index}
+use Rattle.instance_read.specs.Scales.{coordinate_range}
 use Rattle.instance_read.specs.Rows.{Row}
 use Rattle.instance_read.specs.Vrp.{any_key, coordinate_limits, demand_limits, first_key, has_key, has_node, in_coordinates, in_demands, is_node_line, key_fault}
 use Rattle.instance_read.specs.Vrp.{key_number, node_fault, nodes_of, place_fault}
@@ -42,13 +43,13 @@ module _ (before : List Placed) (draft : VrpDraft) (known : IsDraftOfLines befor
   demand_taken : (z : ℤ) → has_node in_demands before z ≡ is_taken draft.demands.items z
   demand_taken z = any_is_find (is_node_line in_demands z) before ∙ sym (some_map demand_in (find (is_node_line in_demands z) before)) ∙ sym (ap is_some (known.demands z))
 
-  pub same_fault : (row : Row) (place : Section) (kind : ReadFaultKind) → place_fault before row place kind ≡ line_fault draft row place kind
+  pub same_fault : (row : Row) (place : Section) (kind : ReadFaultKind) → place_fault draft.scale before row place kind ≡ line_fault draft row place kind
   same_fault row Outside kind =
       ap (λ b. key_fault b (any_key (key_of row) before) (value_of row) (key_of row) kind) announced_is
       ∙ ap (λ b. key_fault (is_some draft.nodes) b (value_of row) (key_of row) kind) (sym (known.seen (key_of row)))
   same_fault row (CoordinateLine n) kind =
-      ap (λ k. node_fault 3 (coordinate_limits k) (has_node in_coordinates before) (words_of row.text) kind) nodes_is
-      ∙ ap (λ taken. node_fault 3 (coordinate_limits (nodes_in draft)) taken (words_of row.text) kind) (λ i z. coordinate_taken z i)
+      ap (λ k. node_fault 3 (coordinate_limits draft.scale k) (has_node in_coordinates before) (words_of row.text) kind) nodes_is
+      ∙ ap (λ taken. node_fault 3 (coordinate_limits draft.scale (nodes_in draft)) taken (words_of row.text) kind) (λ i z. coordinate_taken z i)
   same_fault row (DemandLine n) kind =
       ap (λ k. node_fault 2 (demand_limits k) (has_node in_demands before) (words_of row.text) kind) nodes_is
       ∙ ap (λ taken. node_fault 2 (demand_limits (nodes_in draft)) taken (words_of row.text) kind) (λ i z. demand_taken z i)
@@ -101,7 +102,7 @@ knows_more before row (CoordinateLine n) old new valid known fits none takes =
     let p = placed row (CoordinateLine n) in
     let words = words_of row.text in
     let table = old.coordinates.items in
-    let limits = (negsuc 999999, pos 1000000) ∷ (negsuc 999999, pos 1000000) ∷ [] in
+    let limits = coordinate_range old.scale ∷ coordinate_range old.scale ∷ [] in
     let node = node_of limits (nodes_in old) table words none in
     let is = takes.1 ∙ ap (λ k. set table k (Some (point_in p))) (index_is_node limits (nodes_in old) table words none) in
     section_knows before p (λ key. refl) old new known (ap (λ (d : VrpDraft). d.seen) takes.0) (ap (λ (d : VrpDraft). d.nodes) takes.0)

@@ -82,12 +82,12 @@ demand_kept (negsuc n) h = absurd (grind (arith, ints, h.0))
 
 -- facts about the draft with the new table
 module _ (old new : VrpDraft) (text : List ℕ) (valid : IsDraft old) where
-  pub takes_point : (point : ℤ × ℤ) → IsPoint point → point ≡ (value_at (words_of text) 1, value_at (words_of text) 2) → new ≡ record old { coordinates = new.coordinates }
+  pub takes_point : (point : ℤ × ℤ) → IsPoint old.scale point → point ≡ (value_at (words_of text) 1, value_at (words_of text) 2) → new ≡ record old { coordinates = new.coordinates }
       → new.coordinates.items ≡ set old.coordinates.items (node_index (words_of text)) (Some point) → TakesLine old (unnumbered text) (CoordinateLine 0) new × IsDraft new
   takes_point point within is other put =
-      let AreWithin = All (λ entry. IfSome entry IsPoint) in
+      let AreWithin = All (λ entry. IfSome entry (IsPoint old.scale)) in
       let all : AreWithin new.coordinates.items = subst AreWithin (sym put)
-      (All-set (λ entry. IfSome entry IsPoint) old.coordinates.items (node_index (words_of text)) (Some point) within valid.coordinates) in (
+      (All-set (λ entry. IfSome entry (IsPoint old.scale)) old.coordinates.items (node_index (words_of text)) (Some point) within valid.coordinates) in (
         (other, put ∙ ap (λ p. set old.coordinates.items (node_index (words_of text)) (Some p)) is),
         subst IsDraft (sym other) (record { keys = valid.keys; nodes = valid.nodes; capacity = valid.capacity; coordinates = all; demands = valid.demands }),
       )

@@ -11,6 +11,7 @@ use Rattle.text_lines.specs.Words.{words_of}
 use Rattle.instance_read.specs.declared.faults.ReadFault.{ReadFault}
 use Rattle.instance_read.specs.declared.faults.ReadFaultKind.{ReadFaultKind}
 use Rattle.instance_read.specs.declared.faults.ReadFaultKind.TheVariants.{BadNumber, FieldCount, NodeRepeated, OutOfMemory}
+use Rattle.instance_read.specs.declared.scales.Scale.{Scale}
 use Rattle.instance_read.specs.declared.vrp_draft.VrpDraft.{VrpDraft}
 use Rattle.instance_read.specs.declared.vrp_lines.Key.{Key}
 use Rattle.instance_read.specs.declared.vrp_lines.Key.TheVariants.{Dimension, Coordinates, Demands, Depots}
@@ -46,14 +47,14 @@ compare_splits {A} (z ∷ b) x a (w ∷ c) y d e =
     step (inr (inr earlier)) h = inr (inr (earlier.0, ap (λ q. q ∷ b) h ∙ ap (λ l. w ∷ l) earlier.1))
 
 -- one more line without a fault, after lines without a fault
-pub clean_more : (before : List Placed) (p : Placed) → HasNoLineFault before → HasNoKind (place_fault before p.row p.place) → HasNoLineFault (before ++ p ∷ [])
-clean_more before p clean none b q a e =
+pub clean_more : (scale : Scale) (before : List Placed) (p : Placed) → HasNoLineFault scale before → HasNoKind (place_fault scale before p.row p.place) → HasNoLineFault scale (before ++ p ∷ [])
+clean_more scale before p clean none b q a e =
     by (compare_splits before p [] b q a e)
   where
-    by : ((before ≡ b) × (p ≡ q)) ⊎ (((m : List Placed) × (b ≡ before ++ p ∷ m)) ⊎ ((m : List Placed) × (before ≡ b ++ q ∷ m))) → HasNoKind (place_fault b q.row q.place)
+    by : ((before ≡ b) × (p ≡ q)) ⊎ (((m : List Placed) × (b ≡ before ++ p ∷ m)) ⊎ ((m : List Placed) × (before ≡ b ++ q ∷ m))) → HasNoKind (place_fault scale b q.row q.place)
     by (inl same) =
-        let P : List Placed → Type 0 = λ l. HasNoKind (place_fault l q.row q.place) in
-        let Q : Placed → Type 0 = λ r. HasNoKind (place_fault before r.row r.place) in
+        let P : List Placed → Type 0 = λ l. HasNoKind (place_fault scale l q.row q.place) in
+        let Q : Placed → Type 0 = λ r. HasNoKind (place_fault scale before r.row r.place) in
         subst P same.0 (subst Q same.1 none)
     by (inr (inl longer)) =
         absurd (omega (arith, ap length e, ap length longer.1, length-append before (p ∷ []), length-append b (q ∷ a), length-append before (p ∷ longer.0)))
@@ -139,12 +140,13 @@ fits_next row (DepotLine n) old new fits takes = fits_depots (n + length (words_
 fits_next row AfterEnd old new fits takes = tt
 
 -- the lines before the rest are read: the draft has their data, and none of them has a fault
-pub record IsReading (all : List Row) (draft : VrpDraft) (place : Section) (rest : List Row) : Type 0 where
+pub record IsReading (scale : Scale) (all : List Row) (draft : VrpDraft) (place : Section) (rest : List Row) : Type 0 where
   pub before : List Placed
   pub splits : placed_rows all ≡ before ++ placed_from draft.nodes place rest
   pub ends : end_from None Outside all ≡ end_from draft.nodes place rest
   pub known : IsDraftOfLines before draft
-  pub clean : HasNoLineFault before
+  pub scale_is : draft.scale ≡ scale
+  pub clean : HasNoLineFault scale before
   pub valid : IsDraft draft
   pub fits : FitsSection place draft
 
@@ -157,15 +159,28 @@ pub placed_none : (nodes : Option ℕ) (place : Section) → placed_from nodes p
 unfolding placed_from
 placed_none nodes place = refl
 
+-- no line changes the scale
+scale_key : (row : Row) (old new : VrpDraft) (key : Key) → TakesValue (with_key old key) row.line (value_of row) key new → new.scale ≡ old.scale
+scale_key row old new Coordinates takes = ap (λ (d : VrpDraft). d.scale) takes.0
+scale_key row old new Demands takes = ap (λ (d : VrpDraft). d.scale) takes.0
+scale_key row old new _ takes = ap (λ (d : VrpDraft). d.scale) takes
+
+scale_kept : (row : Row) (place : Section) (old new : VrpDraft) → TakesLine old row place new → new.scale ≡ old.scale
+scale_kept row Outside old new takes = scale_key row old new (key_of row) takes
+scale_kept row (CoordinateLine n) old new takes = ap (λ (d : VrpDraft). d.scale) takes.0
+scale_kept row (DemandLine n) old new takes = ap (λ (d : VrpDraft). d.scale) takes.0
+scale_kept row (DepotLine seen) old new takes = ap (λ (d : VrpDraft). d.scale) takes
+scale_kept row AfterEnd old new takes = ap (λ (d : VrpDraft). d.scale) takes
+
 -- facts about the state after one more line
-module _ (all : List Row) (old new : VrpDraft) (place next : Section) (rest more : List Row) (row : Row) (steps : rest ≡ row ∷ more) (reading : IsReading all old place rest) where
+module _ (scale : Scale) (all : List Row) (old new : VrpDraft) (place next : Section) (rest more : List Row) (row : Row) (steps : rest ≡ row ∷ more) (reading : IsReading scale all old place rest) where
   split_here : placed_rows all ≡ reading.before ++ placed row place ∷ placed_from (nodes_after old.nodes row place) (place_after old.nodes row place) more
   split_here = reading.splits ∙ ap (λ rows. reading.before ++ placed_from old.nodes place rows) steps ∙ ap (λ ps. reading.before ++ ps) (placed_step old.nodes place row more)
 
-  same : (kind : ReadFaultKind) → place_fault reading.before row place kind ≡ line_fault old row place kind
-  same kind = same_fault reading.before old reading.known row place kind
+  same : (kind : ReadFaultKind) → place_fault scale reading.before row place kind ≡ line_fault old row place kind
+  same kind = ap (λ s. place_fault s reading.before row place kind) (sym reading.scale_is) ∙ same_fault reading.before old reading.known row place kind
 
-  pub reading_more : HasNoKind (line_fault old row place) → TakesLine old row place new → next ≡ place_after old.nodes row place → IsDraft new → IsReading all new next more
+  pub reading_more : HasNoKind (line_fault old row place) → TakesLine old row place new → next ≡ place_after old.nodes row place → IsDraft new → IsReading scale all new next more
   reading_more none takes goes valid =
       let nodes = nodes_step reading.before row place old new reading.known none takes in
       let P : Section → Type 0 = λ p. FitsSection p new in
@@ -176,19 +191,20 @@ module _ (all : List Row) (old new : VrpDraft) (place next : Section) (rest more
             ∙ sym (append_assoc reading.before (placed row place ∷ []) (placed_from new.nodes next more));
         ends = reading.ends ∙ ap (end_from old.nodes place) steps ∙ ap (λ o. end_from o (place_after old.nodes row place) more) nodes ∙ ap (λ p. end_from new.nodes p more) (sym goes);
         known = knows_more reading.before row place old new reading.valid reading.known reading.fits none takes;
-        clean = clean_more reading.before (placed row place) reading.clean (λ kind. same kind ∙ none kind);
+        scale_is = scale_kept row place old new takes ∙ reading.scale_is;
+        clean = clean_more scale reading.before (placed row place) reading.clean (λ kind. same kind ∙ none kind);
         valid = valid;
         fits = subst P (sym goes) (fits_next row place old new reading.fits takes);
       }
 
-  first_here : (kind : ReadFaultKind) → IsFirstKind (line_fault old row place) kind → IsFirstKind (place_fault reading.before row place) kind
+  first_here : (kind : ReadFaultKind) → IsFirstKind (line_fault old row place) kind → IsFirstKind (place_fault scale reading.before row place) kind
   first_here kind h = (same kind ∙ h.0, λ k e. h.1 k (sym (same k) ∙ e))
 
   pub reading_stops : (kind : ReadFaultKind) (f : ReadFault) → ReportsKind (line_fault old row place) kind
-      → (kind ≡ OutOfMemory → f ≡ record { line = 0; kind = OutOfMemory }) → ((kind ≡ OutOfMemory → ⊥) → f ≡ record { line = row.line; kind = kind }) → ReportsLine (placed_rows all) f
+      → (kind ≡ OutOfMemory → f ≡ record { line = 0; kind = OutOfMemory }) → ((kind ≡ OutOfMemory → ⊥) → f ≡ record { line = row.line; kind = kind }) → ReportsLine scale (placed_rows all) f
   reading_stops kind f (inl memory) reported other = inl (reported memory)
   reading_stops kind f (inr first) reported other =
-      let P : ReadFault → Type 0 = IsFirstFaultyLine (placed_rows all) in
+      let P : ReadFault → Type 0 = IsFirstFaultyLine scale (placed_rows all) in
       let here = first_here kind first in
       inr (subst P (sym (other (λ e. out_of_memory row place (subst (λ (k : ReadFaultKind). line_fault old row place k ≡ true) e first.0))))
       (record {
@@ -213,10 +229,10 @@ module _ (all : List Row) (old new : VrpDraft) (place next : Section) (rest more
       out_of_memory row _ e = false≢true e
 
 -- the case in which all lines are read
-pub reading_done : (all : List Row) (draft : VrpDraft) (place : Section) (rest : List Row) → rest ≡ [] → IsReading all draft place rest
-    → IsDraftOfLines (placed_rows all) draft × IsDraft draft × HasNoLineFault (placed_rows all) × (place ≡ end_from None Outside all)
-reading_done all draft place rest none reading =
+pub reading_done : (scale : Scale) (all : List Row) (draft : VrpDraft) (place : Section) (rest : List Row) → rest ≡ [] → IsReading scale all draft place rest
+    → IsDraftOfLines (placed_rows all) draft × IsDraft draft × (draft.scale ≡ scale) × HasNoLineFault scale (placed_rows all) × (place ≡ end_from None Outside all)
+reading_done scale all draft place rest none reading =
     let is = reading.splits ∙ ap (λ rows. reading.before ++ placed_from draft.nodes place rows) none ∙ ap (λ ps. reading.before ++ ps) (placed_none draft.nodes place) ∙ append-nil reading.before in
     let P : List Placed → Type 0 = λ ps. IsDraftOfLines ps draft in
-    let Q : List Placed → Type 0 = HasNoLineFault in
-    (subst P (sym is) reading.known, reading.valid, subst Q (sym is) reading.clean, sym (reading.ends ∙ ap (end_from draft.nodes place) none))
+    let Q : List Placed → Type 0 = HasNoLineFault scale in
+    (subst P (sym is) reading.known, reading.valid, reading.scale_is, subst Q (sym is) reading.clean, sym (reading.ends ∙ ap (end_from draft.nodes place) none))

@@ -12,6 +12,7 @@ use Rattle.instance_read.specs.Solomon.{SolomonFault, customer_limits, heading, 
 use Rattle.instance_read.specs.SolomonEvidence.{customer_fields, due_evidence, due_line_from, fleet_fields, line_after, solomon_line_evidence}
 use Rattle.instance_read.specs.TaskFaults.{LinesAbove}
 use Rattle.instance_read.specs.WordEvidence.{numbers_evidence}
+use Rattle.instance_read.specs.declared.scales.Scale.{Scale}
 use Rattle.instance_read.specs.declared.evidence.Evidence.{Evidence}
 use Rattle.instance_read.specs.declared.evidence.SolomonLine.{SolomonLine}
 use Rattle.instance_read.specs.declared.evidence.SolomonLine.TheVariants.{Customer, Depot, Name}
@@ -29,82 +30,83 @@ spot_is n m due text (r ∷ before) row after l at =
     ap (λ b. cond b (due, text, r.text) (due_line_from n (line_after due) r.text (before ++ row ∷ after))) other
     ∙ spot_is n r.line (line_after due) r.text before row after l.1 at
 
--- the evidence in the line that is found
-abbrev evidence_at : ReadFaultKind → SolomonLine × List ℕ × List ℕ → Evidence
-evidence_at kind spot = solomon_line_evidence spot.0 spot.1 spot.2 kind
+module _ (scale : Scale) where
+  -- the evidence in the line that is found
+  abbrev evidence_at : ReadFaultKind → SolomonLine × List ℕ × List ℕ → Evidence
+  evidence_at kind spot = solomon_line_evidence scale spot.0 spot.1 spot.2 kind
 
-module _ (text : List ℕ) (before : List Row) (row : Row) (after : List Row) (splits : rows_of text ≡ before ++ row ∷ after) where
-  spot : due_line_from row.line Name [] (rows_of text) ≡ (due_after Name before, last_text [] before, row.text)
-  spot =
-      let P : List Row → Type 0 = LinesAbove 0 in
-      ap (due_line_from row.line Name []) splits ∙ spot_is row.line 0 Name [] before row after (subst P splits (rows_above 0 (lines_of text))) refl
+  module _ (text : List ℕ) (before : List Row) (row : Row) (after : List Row) (splits : rows_of text ≡ before ++ row ∷ after) where
+    spot : due_line_from row.line Name [] (rows_of text) ≡ (due_after Name before, last_text [] before, row.text)
+    spot =
+        let P : List Row → Type 0 = LinesAbove 0 in
+        ap (due_line_from row.line Name []) splits ∙ spot_is row.line 0 Name [] before row after (subst P splits (rows_above 0 (lines_of text))) refl
 
-  evidence_is : (kind : ReadFaultKind)
-      → evidence_at kind (due_line_from row.line Name [] (rows_of text)) ≡ solomon_line_evidence (due_after Name before) (last_text [] before) row.text kind
-  evidence_is kind = ap (evidence_at kind) spot
+    evidence_is : (kind : ReadFaultKind)
+        → evidence_at kind (due_line_from row.line Name [] (rows_of text)) ≡ solomon_line_evidence scale (due_after Name before) (last_text [] before) row.text kind
+    evidence_is kind = ap (evidence_at kind) spot
 
--- after the lines of the heading, each line is a customer's
-abbrev IsCustomerLine : SolomonLine → Type 0
-IsCustomerLine Depot = Unit {0}
-IsCustomerLine Customer = Unit {0}
-IsCustomerLine _ = ⊥
+  -- after the lines of the heading, each line is a customer's
+  abbrev IsCustomerLine : SolomonLine → Type 0
+  IsCustomerLine Depot = Unit {0}
+  IsCustomerLine Customer = Unit {0}
+  IsCustomerLine _ = ⊥
 
-stays_customer : (rows : List Row) → IsCustomerLine (due_after Customer rows)
-stays_customer [] = tt
-stays_customer (row ∷ rows) = stays_customer rows
+  stays_customer : (rows : List Row) → IsCustomerLine (due_after Customer rows)
+  stays_customer [] = tt
+  stays_customer (row ∷ rows) = stays_customer rows
 
-stays : (rows : List Row) → IsCustomerLine (due_after Depot rows)
-stays [] = tt
-stays (row ∷ rows) = stays_customer rows
+  stays : (rows : List Row) → IsCustomerLine (due_after Depot rows)
+  stays [] = tt
+  stays (row ∷ rows) = stays_customer rows
 
-customer_shown : (kind : ReadFaultKind) (words : List (List ℕ)) (due : SolomonLine) → IsCustomerLine due
-    → IsFirstWord kind customer_fields customer_limits 0 words (numbers_evidence kind customer_fields customer_limits words)
-    → IsFirstWord kind (fields_due due) (limits_due due) 0 words (due_evidence kind words due)
-customer_shown kind words Depot is found = found
-customer_shown kind words Customer is found = found
-customer_shown kind words due is found = absurd is
+  customer_shown : (kind : ReadFaultKind) (words : List (List ℕ)) (due : SolomonLine) → IsCustomerLine due
+      → IsFirstWord kind customer_fields (customer_limits scale) 0 words (numbers_evidence kind customer_fields (customer_limits scale) words)
+      → IsFirstWord kind (fields_due due) (limits_due scale due) 0 words (due_evidence scale kind words due)
+  customer_shown kind words Depot is found = found
+  customer_shown kind words Customer is found = found
+  customer_shown kind words due is found = absurd is
 
--- what the law says of a line after these lines
-abbrev IsShown : List ℕ → List Row → Row → ReadFaultKind → Type 0
-IsShown text before row kind =
-    let due = due_after Name before in
-    IsFirstWord kind (fields_due due) (limits_due due) 0 (words_of row.text) (solomon_line_evidence due text row.text kind)
+  -- what the law says about a line after these lines
+  abbrev IsShown : List ℕ → List Row → Row → ReadFaultKind → Type 0
+  IsShown text before row kind =
+      let due = due_after Name before in
+      IsFirstWord kind (fields_due due) (limits_due scale due) 0 (words_of row.text) (solomon_line_evidence scale due text row.text kind)
 
-no_number_shown : (text : List ℕ) (before : List Row) (row : Row) → line_fault heading before row BadNumber ≡ true → IsShown text before row BadNumber
-no_number_shown text [] row has = absurd (false≢true has)
-no_number_shown text (a ∷ []) row has = absurd (false≢true has)
-no_number_shown text (a ∷ b ∷ []) row has = absurd (false≢true has)
-no_number_shown text (a ∷ b ∷ c ∷ []) row has = (numbers_show_the_word fleet_fields header_limits (words_of row.text)).0 has
-no_number_shown text (a ∷ b ∷ c ∷ d ∷ []) row has = absurd (false≢true has)
-no_number_shown text (a ∷ b ∷ c ∷ d ∷ e ∷ []) row has = absurd (false≢true has)
-no_number_shown text (a ∷ b ∷ c ∷ d ∷ e ∷ f ∷ before) row has =
-    customer_shown BadNumber (words_of row.text) (due_after Depot before) (stays before) ((numbers_show_the_word customer_fields customer_limits (words_of row.text)).0 has)
+  no_number_shown : (text : List ℕ) (before : List Row) (row : Row) → line_fault scale heading before row BadNumber ≡ true → IsShown text before row BadNumber
+  no_number_shown text [] row has = absurd (false≢true has)
+  no_number_shown text (a ∷ []) row has = absurd (false≢true has)
+  no_number_shown text (a ∷ b ∷ []) row has = absurd (false≢true has)
+  no_number_shown text (a ∷ b ∷ c ∷ []) row has = (numbers_show_the_word fleet_fields header_limits (words_of row.text)).0 has
+  no_number_shown text (a ∷ b ∷ c ∷ d ∷ []) row has = absurd (false≢true has)
+  no_number_shown text (a ∷ b ∷ c ∷ d ∷ e ∷ []) row has = absurd (false≢true has)
+  no_number_shown text (a ∷ b ∷ c ∷ d ∷ e ∷ f ∷ before) row has =
+      customer_shown BadNumber (words_of row.text) (due_after Depot before) (stays before) ((numbers_show_the_word customer_fields (customer_limits scale) (words_of row.text)).0 has)
 
-beyond_shown : (text : List ℕ) (before : List Row) (row : Row) → line_fault heading before row Range ≡ true → IsShown text before row Range
-beyond_shown text [] row has = absurd (false≢true has)
-beyond_shown text (a ∷ []) row has = absurd (false≢true has)
-beyond_shown text (a ∷ b ∷ []) row has = absurd (false≢true has)
-beyond_shown text (a ∷ b ∷ c ∷ []) row has = (numbers_show_the_word fleet_fields header_limits (words_of row.text)).1 has
-beyond_shown text (a ∷ b ∷ c ∷ d ∷ []) row has = absurd (false≢true has)
-beyond_shown text (a ∷ b ∷ c ∷ d ∷ e ∷ []) row has = absurd (false≢true has)
-beyond_shown text (a ∷ b ∷ c ∷ d ∷ e ∷ f ∷ before) row has =
-    customer_shown Range (words_of row.text) (due_after Depot before) (stays before) ((numbers_show_the_word customer_fields customer_limits (words_of row.text)).1 has)
+  beyond_shown : (text : List ℕ) (before : List Row) (row : Row) → line_fault scale heading before row Range ≡ true → IsShown text before row Range
+  beyond_shown text [] row has = absurd (false≢true has)
+  beyond_shown text (a ∷ []) row has = absurd (false≢true has)
+  beyond_shown text (a ∷ b ∷ []) row has = absurd (false≢true has)
+  beyond_shown text (a ∷ b ∷ c ∷ []) row has = (numbers_show_the_word fleet_fields header_limits (words_of row.text)).1 has
+  beyond_shown text (a ∷ b ∷ c ∷ d ∷ []) row has = absurd (false≢true has)
+  beyond_shown text (a ∷ b ∷ c ∷ d ∷ e ∷ []) row has = absurd (false≢true has)
+  beyond_shown text (a ∷ b ∷ c ∷ d ∷ e ∷ f ∷ before) row has =
+      customer_shown Range (words_of row.text) (due_after Depot before) (stays before) ((numbers_show_the_word customer_fields (customer_limits scale) (words_of row.text)).1 has)
 
-shown : (text : List ℕ) (before : List Row) (row : Row) (kind : ReadFaultKind) → IsWordFault kind → line_fault heading before row kind ≡ true → IsShown text before row kind
-shown text before row BadNumber of has = no_number_shown text before row has
-shown text before row Range of has = beyond_shown text before row has
-shown text before row kind of has = absurd of
+  shown : (text : List ℕ) (before : List Row) (row : Row) (kind : ReadFaultKind) → IsWordFault kind → line_fault scale heading before row kind ≡ true → IsShown text before row kind
+  shown text before row BadNumber of has = no_number_shown text before row has
+  shown text before row Range of has = beyond_shown text before row has
+  shown text before row kind of has = absurd of
 
-of_fault : (text : List ℕ) (line : ℕ) (kind : ReadFaultKind) (class : Class)
-    → SolomonFault text class line kind → IsWordFault kind → ShowsDueWord text (record { line = line; kind = kind })
-of_fault text line kind OfLine f of =
-    let due = due_after Name f.0 in
-    let P : Evidence → Type 0 = IsFirstWord kind (fields_due due) (limits_due due) 0 (words_of f.1.text) in
-    let is = sym (evidence_is text f.0 f.1 f.2 f.3 kind) ∙ ap (λ n. evidence_at kind (due_line_from n Name [] (rows_of text))) f.4 in
-    (f.0, f.1, f.2, f.3, f.4, subst P is (shown (last_text [] f.0) f.0 f.1 kind of f.5))
-of_fault text line BadNumber OfText f of = absurd f
-of_fault text line Range OfText f of = absurd f
-of_fault text line kind OfText f of = absurd of
+  of_fault : (text : List ℕ) (line : ℕ) (kind : ReadFaultKind) (class : Class)
+      → SolomonFault scale text class line kind → IsWordFault kind → ShowsDueWord scale text (record { line = line; kind = kind })
+  of_fault text line kind OfLine f of =
+      let due = due_after Name f.0 in
+      let P : Evidence → Type 0 = IsFirstWord kind (fields_due due) (limits_due scale due) 0 (words_of f.1.text) in
+      let is = sym (evidence_is text f.0 f.1 f.2 f.3 kind) ∙ ap (λ n. evidence_at kind (due_line_from n Name [] (rows_of text))) f.4 in
+      (f.0, f.1, f.2, f.3, f.4, subst P is (shown (last_text [] f.0) f.0 f.1 kind of f.5))
+  of_fault text line BadNumber OfText f of = absurd f
+  of_fault text line Range OfText f of = absurd f
+  of_fault text line kind OfText f of = absurd of
 
 pub solomon_evidence_shows_the_word : SolomonEvidenceShowsTheWord
-solomon_evidence_shows_the_word text fault h of = of_fault text fault.line fault.kind h.0 h.1 of
+solomon_evidence_shows_the_word scale text fault h of = of_fault scale text fault.line fault.kind h.0 h.1 of

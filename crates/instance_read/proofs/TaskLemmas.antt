@@ -1,20 +1,24 @@
 -- The words of a line with a stop, and the task that they make.
-use Rattle.std.proofs.Common.{◌≡◌, ℕ, ◌<◌, ◌≤◌, true, false, List, length, get_or, Option, Some, refl, sym, ap, subst, ⊎_elim, ◌∙◌, arith, ℤ, pos, negsuc}
+use Rattle.std.proofs.Common.{◌≡◌, ℕ, ◌<◌, ◌≤◌, ◌^◌, true, false, List, length, get_or, Option, Some, refl, sym, ap, subst, ⊎_elim, ◌∙◌, arith, ℤ, pos, negsuc}
 use Rattle.std.specs.Prelude.{int_lt, not, ◌==◌, option_and_then, unwrap_or}
 use Rattle.std.specs.Int.RustNames.{unsigned_abs}
 use Rattle.std.proofs.lemmas.Bool.{cases_lt, eq-eqb, or_parts, lt-ltb, le-ltb, not_from_true, false≢true}
 use Rattle.std.proofs.lemmas.List.{get_or_past}
 use Rattle.std.proofs.lemmas.Option.{slice_get_past}
 use Rattle.text_lines.specs.Numbers.{number_of}
+use Rattle.instance_read.specs.declared.scales.Scale.{Scale}
 use Rattle.instance_read.specs.declared.tasks.Task.{Task}
 use Rattle.instance_read.specs.Fields.{field, value_at, passes_test, is_beyond, any_beyond, has_no_number, exceeds}
 use Rattle.instance_read.specs.FieldValues.{HasNumbers, IsValue}
 use Rattle.instance_read.specs.Lilim.{is_out_of_order, stop_fault}
 use Rattle.instance_read.specs.Pairs.{task_from}
+use Rattle.instance_read.specs.Scales.{coordinate_range, service_range, time_range, unscaled_limit}
+use Rattle.instance_read.specs.Tables.{IsScalable}
 use Rattle.instance_read.specs.TaskFaults.{AreStopLimits, HasNoKind, IsFirstKind}
 use Rattle.instance_read.specs.declared.faults.ReadFaultKind.TheVariants.{BadNumber, Range, FieldCount, TaskOrder, EmptyWindow, TooManyStops}
 use Rattle.instance_read.proofs.KindLemmas.{none_below}
 use Rattle.instance_read.proofs.NumberLemmas.{any_beyond-false, numbers_of}
+use Rattle.instance_read.proofs.ScaleLemmas.{coordinate_fits, coordinate_within, times_within}
 
 -- a number of 0 or more equals its absolute value
 pub from_zero : (most z : ℤ) → is_beyond (pos 0, most) z ≡ false → z ≡ pos (unsigned_abs z)
@@ -51,7 +55,7 @@ pub counted_by : (limits : List (ℤ × ℤ)) (words : List (List ℕ)) (count :
 counted_by limits words count sized = ap (λ n. not (length words == n)) sized
 
 -- facts about a line whose numbers keep the limits of a stop
-module _ (count : ℕ) (limits : List (ℤ × ℤ)) (are : AreStopLimits limits) (sized : length limits ≡ count) (words : List (List ℕ)) (values : List ℤ)
+module _ (count : ℕ) (scale : Scale) (limits : List (ℤ × ℤ)) (are : AreStopLimits scale limits) (sized : length limits ≡ count) (words : List (List ℕ)) (values : List ℤ)
     (h : HasNumbers count limits words values) where
   counted : not (length words == length limits) ≡ false
   counted = not_from_true (length words == length limits) (eq-eqb (length words) (length limits) (h.0 ∙ sym sized))
@@ -96,12 +100,26 @@ module _ (count : ℕ) (limits : List (ℤ × ℤ)) (are : AreStopLimits limits)
 
     window_is : exceeds (field words 4) (field words 5) ≡ int_lt (pos task.stop.latest) (pos task.stop.earliest)
     window_is =
-        let earliest = has_value 4 (pos 0, pos 100000000) (omega arith) are.earliest in
-        let latest = has_value 5 (pos 0, pos 100000000) (omega arith) are.latest in
+        let most = pos (unscaled_limit scale 100000000) in
+        let earliest = has_value 4 (time_range scale) (omega arith) are.earliest in
+        let latest = has_value 5 (time_range scale) (omega arith) are.latest in
         ap (λ o. exceeds o (field words 5)) earliest.0 ∙ ap (λ o. exceeds (Some (get_or values 4 (pos 0))) o) latest.0
-        ∙ ap (λ z. int_lt z (get_or values 4 (pos 0))) (from_zero (pos 100000000) (get_or values 5 (pos 0)) latest.1)
-        ∙ ap (λ z. int_lt (pos (unsigned_abs (get_or values 5 (pos 0)))) z) (from_zero (pos 100000000) (get_or values 4 (pos 0)) earliest.1)
+        ∙ ap (λ z. int_lt z (get_or values 4 (pos 0))) (from_zero most (get_or values 5 (pos 0)) latest.1)
+        ∙ ap (λ z. int_lt (pos (unsigned_abs (get_or values 5 (pos 0)))) z) (from_zero most (get_or values 4 (pos 0)) earliest.1)
         ∙ sym (ap (λ t. int_lt (pos t.stop.latest) (pos t.stop.earliest)) made)
+
+    -- the products with the scale fit their types
+    pub scalable : IsScalable scale task.stop
+    scalable =
+        let P : Task → Type 0 = λ t. IsScalable scale t.stop in
+        let v = λ (k : ℕ). get_or values k (pos 0) in
+        subst P (sym made) (record {
+          x = coordinate_fits _ (coordinate_within scale (v 1) (has_value 1 (coordinate_range scale) (omega arith) are.x).1);
+          y = coordinate_fits _ (coordinate_within scale (v 2) (has_value 2 (coordinate_range scale) (omega arith) are.y).1);
+          earliest = omega (arith, times_within scale 100000000 (v 4) (has_value 4 (time_range scale) (omega arith) are.earliest).1);
+          latest = omega (arith, times_within scale 100000000 (v 5) (has_value 5 (time_range scale) (omega arith) are.latest).1);
+          service = omega (arith, times_within scale 1000000 (v 6) (has_value 6 (service_range scale) (omega arith) are.service).1);
+        })
 
     pub order_first : is_out_of_order previous (pos task.stop.number) ≡ true → IsFirstKind (stop_fault limits previous words) TaskOrder
     order_first e =

@@ -7,10 +7,12 @@ use Rattle.std.proofs.lemmas.Bool.{false≢true}
 use Rattle.text_lines.specs.Words.{words_of}
 use Rattle.plan_types.specs.declared.requests.Kind.TheVariants.{Vrp}
 use Rattle.plan_types.specs.declared.requests.Request.TheVariants.{Single}
+use Rattle.instance_read.specs.declared.scales.Scale.{Scale}
 use Rattle.instance_read.specs.declared.vrp_draft.VrpDraft.{VrpDraft}
 use Rattle.instance_read.specs.declared.vrp_lines.Key.TheVariants.{Dimension, Capacity, WeightType, Coordinates, Demands, Depots, End}
 use Rattle.instance_read.specs.Drafts.{has_seen, nodes_in}
 use Rattle.instance_read.specs.Fields.{value_at}
+use Rattle.instance_read.specs.Scales.{times_ℤ}
 use Rattle.instance_read.specs.Rows.{Row}
 use Rattle.instance_read.specs.Vrp.{first_key, in_coordinates, in_demands, is_node_line, lacks_key, node_stop, node_value, nodes_of, vrp_problem}
 use Rattle.instance_read.specs.VrpLines.{Placed}
@@ -64,27 +66,36 @@ module _ (ps : List Placed) (draft : VrpDraft) (known : IsDraftOfLines ps draft)
       ∙ ap (λ k. unwrap_or (option_map demand_in (find (is_node_line in_demands (pos k)) ps)) (pos 0)) (sym (add-one n))
       ∙ demand_of (find (is_node_line in_demands (pos (n + 1))) ps)
 
-  stop_is : (demand : ℤ) (n : ℕ) → drafted_stop draft demand n ≡ node_stop ps demand n
-  stop_is demand n = λ i. record { number = n; x = x_is n i; y = y_is n i; demand = demand; earliest = 0; latest = 100000000; service = 0 }
-
-  customer_is : (n : ℕ) → customer_in draft n ≡ (n, Single (node_stop ps (node_value in_demands ps (n + 1) 1) n))
-  customer_is n = ap (λ s. (n, Single s)) (ap (λ d. drafted_stop draft d n) (demand_is n) ∙ stop_is (node_value in_demands ps (n + 1) 1) n)
-
   capacity_is : unwrap_or draft.capacity 0 ≡ option_map_or (λ row. number_in row) (first_key Capacity ps) 0
   capacity_is = ap (λ o. unwrap_or o 0) known.capacity ∙ nodes_map (first_key Capacity ps)
 
   nodes_same : nodes_in draft ≡ nodes_of ps
   nodes_same = sym (nodes_is ps draft known)
 
-  pub problem_is : drafted_problem draft ≡ vrp_problem ps
-  problem_is = λ i. record {
-    kind = Vrp;
-    depot = stop_is (pos 0) 0 i;
-    capacity = capacity_is i;
-    fleet = nodes_same i - 1;
-    requests = map (λ n. customer_is n i) (range_with_len 1 (nodes_same i - 1));
-    next_number = nodes_same i;
-  }
-
   pub end_is : (n : ℕ) → option_map_or (λ line. line) draft.end n ≡ option_map_or (λ (row : Row). row.line) (first_key End ps) n
   end_is n = ap (λ o. option_map_or (λ line. line) o n) known.end ∙ line_of n (first_key End ps)
+
+  module _ (scale : Scale) (scale_is : draft.scale ≡ scale) where
+    stop_is : (demand : ℤ) (n : ℕ) → drafted_stop draft demand n ≡ node_stop scale ps demand n
+    stop_is demand n = λ i. record {
+      number = n;
+      x = times_ℤ (scale_is i) (x_is n i);
+      y = times_ℤ (scale_is i) (y_is n i);
+      demand = demand;
+      earliest = 0;
+      latest = 100000000;
+      service = 0;
+    }
+
+    customer_is : (n : ℕ) → customer_in draft n ≡ (n, Single (node_stop scale ps (node_value in_demands ps (n + 1) 1) n))
+    customer_is n = ap (λ s. (n, Single s)) (ap (λ d. drafted_stop draft d n) (demand_is n) ∙ stop_is (node_value in_demands ps (n + 1) 1) n)
+
+    pub problem_is : drafted_problem draft ≡ vrp_problem scale ps
+    problem_is = λ i. record {
+      kind = Vrp;
+      depot = stop_is (pos 0) 0 i;
+      capacity = capacity_is i;
+      fleet = nodes_same i - 1;
+      requests = map (λ n. customer_is n i) (range_with_len 1 (nodes_same i - 1));
+      next_number = nodes_same i;
+    }

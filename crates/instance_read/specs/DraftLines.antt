@@ -19,6 +19,8 @@ use Rattle.instance_read.specs.Drafts.{entry_at, has_seen, nodes_in}
 use Rattle.instance_read.specs.Faults.{out_of_memory}
 use Rattle.instance_read.specs.Fields.{value_at}
 use Rattle.instance_read.specs.Rows.{Row}
+use Rattle.instance_read.specs.Scales.{times_ℤ}
+use Rattle.instance_read.specs.declared.scales.Scale.{Scale}
 use Rattle.instance_read.specs.Vrp.{any_key, first_key, in_coordinates, in_demands, is_node_line, place_fault}
 use Rattle.instance_read.specs.VrpLines.{Placed, placed_from, value_words}
 use Rattle.instance_read.specs.TaskFaults.{HasNoKind, IsFirstKind}
@@ -45,26 +47,27 @@ pub record IsDraftOfLines (before : List Placed) (draft : VrpDraft) : Type 0 whe
   pub no_demands : any_key Demands before ≡ false → draft.demands.items ≡ []
 
 -- none of these lines has a fault
-abbrev pub HasNoLineFault : List Placed → Type 0
-HasNoLineFault ps = (before : List Placed) (p : Placed) (after : List Placed) → ps ≡ before ++ p ∷ after → HasNoKind (place_fault before p.row p.place)
+abbrev pub HasNoLineFault : Scale → List Placed → Type 0
+HasNoLineFault scale ps =
+    (before : List Placed) (p : Placed) (after : List Placed) → ps ≡ before ++ p ∷ after → HasNoKind (place_fault scale before p.row p.place)
 
 -- the first line that has a fault, with its first fault
-pub record IsFirstFaultyLine (ps : List Placed) (f : ReadFault) : Type 0 where
+pub record IsFirstFaultyLine (scale : Scale) (ps : List Placed) (f : ReadFault) : Type 0 where
   pub before : List Placed
   pub here : Placed
   pub after : List Placed
   pub splits : ps ≡ before ++ here ∷ after
   pub line : f.line ≡ here.row.line
-  pub kind : IsFirstKind (place_fault before here.row here.place) f.kind
-  pub clean : HasNoLineFault before
+  pub kind : IsFirstKind (place_fault scale before here.row here.place) f.kind
+  pub clean : HasNoLineFault scale before
 
 -- the lines with their sections; the first line is outside the sections
 abbrev pub placed_rows : List Row → List Placed
 placed_rows rows = placed_from None Outside rows
 
 -- out of memory, or the first fault of these lines
-abbrev pub ReportsLine : List Placed → ReadFault → Type 0
-ReportsLine ps f = (f ≡ out_of_memory) ⊎ IsFirstFaultyLine ps f
+abbrev pub ReportsLine : Scale → List Placed → ReadFault → Type 0
+ReportsLine scale ps f = (f ≡ out_of_memory) ⊎ IsFirstFaultyLine scale ps f
 
 -- a key or a section that each text must have was not seen
 abbrev pub draft_lacks_key : VrpDraft → Bool
@@ -77,12 +80,12 @@ point_at draft n = unwrap_or (slice_index_or draft.coordinates.items n None) (po
 abbrev pub demand_at : VrpDraft → ℕ → ℤ
 demand_at draft n = unwrap_or (slice_index_or draft.demands.items n None) (pos 0)
 
--- node n+1 as stop n, with this demand
+-- node n+1 as stop n, with coordinates times the draft's scale and with this demand
 abbrev pub drafted_stop : VrpDraft → ℤ → ℕ → Stop
 drafted_stop draft demand n = record {
   number = n;
-  x = (point_at draft n).0;
-  y = (point_at draft n).1;
+  x = times_ℤ draft.scale (point_at draft n).0;
+  y = times_ℤ draft.scale (point_at draft n).1;
   demand = demand;
   earliest = 0;
   latest = MAX_TIME;

@@ -15,6 +15,8 @@ use Rattle.instance_read.specs.declared.vrp_lines.Section.{Section}
 use Rattle.instance_read.specs.declared.vrp_lines.Section.TheVariants.{Outside, CoordinateLine, DemandLine, DepotLine, AfterEnd}
 use Rattle.instance_read.specs.Fields.{value_at}
 use Rattle.instance_read.specs.Rows.{Row}
+use Rattle.instance_read.specs.Scales.{times_ℤ}
+use Rattle.instance_read.specs.declared.scales.Scale.{Scale}
 use Rattle.instance_read.specs.Vrp.{key_number, key_fault, max_nodes, node_fault, depot_fault, coordinate_limits, demand_limits}
 use Rattle.instance_read.specs.VrpLines.{key_of, place_after, value_of}
 use Rattle.instance_read.specs.TaskFaults.{HasNoKind, IsFirstKind}
@@ -37,7 +39,7 @@ has_seen draft key = slice_index_or draft.seen (key_number key) false
 -- the faults of a line in this section
 abbrev pub line_fault : VrpDraft → Row → Section → ReadFaultKind → Bool
 line_fault draft row Outside kind = key_fault (is_some draft.nodes) (has_seen draft (key_of row)) (value_of row) (key_of row) kind
-line_fault draft row (CoordinateLine n) kind = node_fault 3 (coordinate_limits (nodes_in draft)) (is_taken draft.coordinates.items) (words_of row.text) kind
+line_fault draft row (CoordinateLine n) kind = node_fault 3 (coordinate_limits draft.scale (nodes_in draft)) (is_taken draft.coordinates.items) (words_of row.text) kind
 line_fault draft row (DemandLine n) kind = node_fault 2 (demand_limits (nodes_in draft)) (is_taken draft.demands.items) (words_of row.text) kind
 line_fault draft row (DepotLine seen) kind = depot_fault seen (words_of row.text) kind
 line_fault draft row AfterEnd kind = false
@@ -70,15 +72,16 @@ TakesLine old row (DemandLine n) new =
 TakesLine old row (DepotLine seen) new = new ≡ old
 TakesLine old row AfterEnd new = new ≡ old
 
-abbrev pub IsPoint : ℤ × ℤ → Type 0
-IsPoint point = IsCoordinate point.0 × IsCoordinate point.1
+-- both coordinates times the scale keep their limits
+abbrev pub IsPoint : Scale → ℤ × ℤ → Type 0
+IsPoint scale point = IsCoordinate (times_ℤ scale point.0) × IsCoordinate (times_ℤ scale point.1)
 
 -- the table of keys has its full length, and every number is within its limits
 pub record IsDraft (draft : VrpDraft) : Type 0 where
   pub keys : length draft.seen ≡ 11
   pub nodes : IfSome draft.nodes (λ n. (2 ≤ n) × (n ≤ max_nodes))
   pub capacity : IfSome draft.capacity IsCapacity
-  pub coordinates : All (λ entry. IfSome entry IsPoint) draft.coordinates.items
+  pub coordinates : All (λ entry. IfSome entry (IsPoint draft.scale)) draft.coordinates.items
   pub demands : All (λ entry. IfSome entry IsDemand) draft.demands.items
 
 -- a line without a fault was taken in this section

@@ -18,6 +18,7 @@ use Rattle.instance_read.specs.declared.evidence.SolomonLine.TheVariants.{Fleet,
 use Rattle.instance_read.specs.declared.faults.ReadFault.{ReadFault}
 use Rattle.instance_read.specs.declared.faults.ReadFaultKind.{ReadFaultKind}
 use Rattle.instance_read.specs.declared.faults.ReadFaultKind.TheVariants.{BadNumber, Range}
+use Rattle.instance_read.specs.declared.scales.Scale.{Scale}
 
 -- the fault is a bad number: a word that is not a number, or a number beyond its limits
 abbrev pub IsWordFault : ReadFaultKind → Type 0
@@ -52,19 +53,20 @@ abbrev pub fields_after : List Row → List Field
 fields_after [] = header_fields
 fields_after (header ∷ before) = task_fields
 
-abbrev pub limits_after : List Row → List (ℤ × ℤ)
-limits_after [] = header_limits
-limits_after (header ∷ before) = task_limits
+abbrev pub limits_after : Scale → List Row → List (ℤ × ℤ)
+limits_after scale [] = header_limits
+limits_after scale (header ∷ before) = task_limits scale
 
 -- the evidence is the first word at fault in the line that the fault names
-abbrev pub ShowsWord : List ℕ → ReadFault → Type 0
-ShowsWord text fault =
+abbrev pub ShowsWord : Scale → List ℕ → ReadFault → Type 0
+ShowsWord scale text fault =
     (before : List Row) × (row : Row) × (after : List Row) × (rows_of text ≡ before ++ row ∷ after) × (row.line ≡ fault.line)
-    × IsFirstWord fault.kind (fields_after before) (limits_after before) 0 (words_of row.text) (lilim_evidence text fault)
+    × IsFirstWord fault.kind (fields_after before) (limits_after scale before) 0 (words_of row.text) (lilim_evidence scale text fault)
 
 -- law: if the first fault of a Li-Lim text is a bad number, its evidence is the first bad number in the line
 abbrev pub EvidenceShowsTheWord : Type 0
-EvidenceShowsTheWord = (text : List ℕ) (fault : ReadFault) → IsFirstFault (LilimFault text) fault → IsWordFault fault.kind → ShowsWord text fault
+EvidenceShowsTheWord =
+    (scale : Scale) (text : List ℕ) (fault : ReadFault) → IsFirstFault (LilimFault scale text) fault → IsWordFault fault.kind → ShowsWord scale text fault
 
 -- the line that is due after these lines, the first of which is `due`
 abbrev pub due_after : SolomonLine → List Row → SolomonLine
@@ -76,16 +78,17 @@ abbrev pub fields_due : SolomonLine → List Field
 fields_due Fleet = fleet_fields
 fields_due _ = customer_fields
 
-abbrev pub limits_due : SolomonLine → List (ℤ × ℤ)
-limits_due Fleet = header_limits
-limits_due _ = customer_limits
+abbrev pub limits_due : Scale → SolomonLine → List (ℤ × ℤ)
+limits_due scale Fleet = header_limits
+limits_due scale _ = customer_limits scale
 
 -- the evidence is the first word at fault in the line that the fault names, of a text in Solomon's format
-abbrev pub ShowsDueWord : List ℕ → ReadFault → Type 0
-ShowsDueWord text fault =
+abbrev pub ShowsDueWord : Scale → List ℕ → ReadFault → Type 0
+ShowsDueWord scale text fault =
     (before : List Row) × (row : Row) × (after : List Row) × (rows_of text ≡ before ++ row ∷ after) × (row.line ≡ fault.line)
-    × IsFirstWord fault.kind (fields_due (due_after Name before)) (limits_due (due_after Name before)) 0 (words_of row.text) (solomon_evidence text fault)
+    × IsFirstWord fault.kind (fields_due (due_after Name before)) (limits_due scale (due_after Name before)) 0 (words_of row.text) (solomon_evidence scale text fault)
 
 -- law: the same for a text in Solomon's format
 abbrev pub SolomonEvidenceShowsTheWord : Type 0
-SolomonEvidenceShowsTheWord = (text : List ℕ) (fault : ReadFault) → IsFirstFault (SolomonFault text) fault → IsWordFault fault.kind → ShowsDueWord text fault
+SolomonEvidenceShowsTheWord =
+    (scale : Scale) (text : List ℕ) (fault : ReadFault) → IsFirstFault (SolomonFault scale text) fault → IsWordFault fault.kind → ShowsDueWord scale text fault

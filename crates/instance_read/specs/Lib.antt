@@ -2,6 +2,7 @@
 pub mod Faults
 pub mod Names
 pub mod Formats
+pub mod Scales
 pub mod Fields
 pub mod FieldValues
 pub mod Rows

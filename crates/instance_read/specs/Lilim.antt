@@ -5,29 +5,31 @@ use Rattle.std.specs.List.{last_or}
 use Rattle.text_lines.specs.Lines.{lines_of}
 use Rattle.text_lines.specs.Words.{words_of}
 use Rattle.plan_types.specs.Instance.{Instance}
-use Rattle.plan_types.specs.declared.limits.TheConstants.{MAX_CAPACITY, MAX_COORDINATE, MAX_DEMAND, MAX_FLEET, MAX_SERVICE, MAX_STOP_NUMBER, MAX_TIME}
+use Rattle.plan_types.specs.declared.limits.TheConstants.{MAX_CAPACITY, MAX_DEMAND, MAX_FLEET, MAX_STOP_NUMBER}
 use Rattle.plan_types.specs.declared.requests.Kind.TheVariants.{LiLim}
 use Rattle.plan_types.specs.declared.requests.Stop.{Stop}
 use Rattle.instance_read.specs.declared.faults.ReadFaultKind.{ReadFaultKind}
 use Rattle.instance_read.specs.declared.faults.ReadFaultKind.TheVariants.{BadNumber, Range, FieldCount, TaskOrder, PairMismatch, EmptyWindow, TooManyStops, Truncated}
+use Rattle.instance_read.specs.declared.scales.Scale.{Scale}
 use Rattle.instance_read.specs.declared.tasks.Task.{Task}
 use Rattle.instance_read.specs.Faults.{Class, OfLine, OfText, HasNoFault}
 use Rattle.instance_read.specs.Fields.{field, value_at, passes_test, has_no_number, is_beyond, any_beyond, exceeds}
-use Rattle.instance_read.specs.Pairs.{task_of, is_mismatched, pairs_of, last_number}
+use Rattle.instance_read.specs.Pairs.{task_in, task_of, is_mismatched, pairs_of, last_number}
 use Rattle.instance_read.specs.Rows.{Row, rows_of}
+use Rattle.instance_read.specs.Scales.{coordinate_range, service_range, time_range}
 
 -- the limits of fleet and capacity; the speed after them may be any number
 abbrev pub header_limits : List (ℤ × ℤ)
 header_limits = (pos 1, pos MAX_FLEET) ∷ (pos 0, pos MAX_CAPACITY) ∷ []
 
 -- the limits of number, x, y, demand, earliest, latest, service, pickup, delivery
-abbrev pub task_limits : List (ℤ × ℤ)
-task_limits =
+abbrev pub task_limits : Scale → List (ℤ × ℤ)
+task_limits scale =
     (pos 0, pos MAX_STOP_NUMBER)
-    ∷ (neg_ℤ MAX_COORDINATE, MAX_COORDINATE) ∷ (neg_ℤ MAX_COORDINATE, MAX_COORDINATE)
+    ∷ coordinate_range scale ∷ coordinate_range scale
     ∷ (neg_ℤ MAX_DEMAND, MAX_DEMAND)
-    ∷ (pos 0, pos MAX_TIME) ∷ (pos 0, pos MAX_TIME)
-    ∷ (pos 0, pos MAX_SERVICE)
+    ∷ time_range scale ∷ time_range scale
+    ∷ service_range scale
     ∷ (pos 0, pos MAX_STOP_NUMBER) ∷ (pos 0, pos MAX_STOP_NUMBER)
     ∷ []
 
@@ -56,30 +58,30 @@ stop_fault limits previous words EmptyWindow = exceeds (field words 4) (field wo
 stop_fault limits previous words _ = false
 
 -- the faults of the words of a task's line; `previous` is the task before it
-abbrev pub task_fault : Option Task → List (List ℕ) → ReadFaultKind → Bool
-task_fault previous words kind = stop_fault task_limits previous words kind
+abbrev pub task_fault : Scale → Option Task → List (List ℕ) → ReadFaultKind → Bool
+task_fault scale previous words kind = stop_fault (task_limits scale) previous words kind
 
 -- the faults of a line after these lines: the first line is the header, the others are tasks
-abbrev pub row_fault : List Row → Row → ReadFaultKind → Bool
-row_fault [] row kind = header_fault (words_of row.text) kind
-row_fault (header ∷ before) row kind = task_fault (last_or None (map task_of before)) (words_of row.text) kind
+abbrev pub row_fault : Scale → List Row → Row → ReadFaultKind → Bool
+row_fault scale [] row kind = header_fault (words_of row.text) kind
+row_fault scale (header ∷ before) row kind = task_fault scale (last_or None (map task_of before)) (words_of row.text) kind
 
 -- all tasks except the first, which is the depot
 unfoldable pub customers_of : List ℕ → List Task
 customers_of text = map task_of (drop 2 (rows_of text))
 
--- all faults of a text
-abbrev pub LilimFault : List ℕ → Class → ℕ → ReadFaultKind → Type 0
+-- all faults of a text that is read with this scale
+abbrev pub LilimFault : Scale → List ℕ → Class → ℕ → ReadFaultKind → Type 0
 -- a line that is read has a fault
-LilimFault text OfLine line kind =
+LilimFault scale text OfLine line kind =
     (before : List Row) × (row : Row) × (after : List Row)
-    × (rows_of text ≡ before ++ row ∷ after) × (row.line ≡ line) × (row_fault before row kind ≡ true)
+    × (rows_of text ≡ before ++ row ∷ after) × (row.line ≡ line) × (row_fault scale before row kind ≡ true)
 -- a customer's task is not half of a pair
-LilimFault text OfText line PairMismatch =
+LilimFault scale text OfText line PairMismatch =
     (t : Task) × Contains (customers_of text) t × (t.line ≡ line) × (is_mismatched (customers_of text) t ≡ true)
 -- there is no header, or no depot
-LilimFault text OfText line Truncated = (length (rows_of text) < 2) × (line ≡ length (lines_of text) + 1)
-LilimFault text OfText line _ = ⊥
+LilimFault scale text OfText line Truncated = (length (rows_of text) < 2) × (line ≡ length (lines_of text) + 1)
+LilimFault scale text OfText line _ = ⊥
 
 -- the depot: its demand and its service are 0
 abbrev pub depot_from : Task → Stop
@@ -105,15 +107,16 @@ problem_from fleet capacity depot customers = record {
   next_number = last_number depot customers + 1;
 }
 
--- the problem of these lines; the header has the fleet and the capacity
-abbrev pub problem_of : Row → Row → List Row → Instance
-problem_of header depot customers =
+-- the problem of these lines, read with this scale; the header has the fleet and the capacity
+abbrev pub problem_of : Scale → Row → Row → List Row → Instance
+problem_of scale header depot customers =
     let words = words_of header.text in
-    problem_from (unsigned_abs (value_at words 0)) (unsigned_abs (value_at words 1)) (task_of depot) (map task_of customers)
+    problem_from (unsigned_abs (value_at words 0)) (unsigned_abs (value_at words 1)) (task_in scale depot) (map (task_in scale) customers)
 
--- a text spells a problem: the text has no fault, and the problem is that of its lines
-abbrev pub SpellsLilim : List ℕ → Instance → Type 0
-SpellsLilim text problem =
-    HasNoFault (LilimFault text)
+-- a text that is read with this scale spells a problem: the text has no fault, and the problem is that of its
+-- lines
+abbrev pub SpellsLilim : Scale → List ℕ → Instance → Type 0
+SpellsLilim scale text problem =
+    HasNoFault (LilimFault scale text)
     × (header : Row) × (depot : Row) × (customers : List Row)
-    × (rows_of text ≡ header ∷ depot ∷ customers) × (problem ≡ problem_of header depot customers)
+    × (rows_of text ≡ header ∷ depot ∷ customers) × (problem ≡ problem_of scale header depot customers)

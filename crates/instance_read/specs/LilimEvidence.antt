@@ -14,6 +14,7 @@ use Rattle.instance_read.specs.declared.evidence.Field.TheVariants as fields
 use Rattle.instance_read.specs.declared.faults.ReadFault.{ReadFault}
 use Rattle.instance_read.specs.declared.faults.ReadFaultKind.{ReadFaultKind}
 use Rattle.instance_read.specs.declared.faults.ReadFaultKind.TheVariants.{EmptyWindow, PairMismatch, TaskOrder, Truncated}
+use Rattle.instance_read.specs.declared.scales.Scale.{Scale}
 
 abbrev pub header_fields : List Field
 header_fields = fields.Fleet ∷ fields.Capacity ∷ fields.Speed ∷ []
@@ -28,9 +29,9 @@ line_and_previous n before [] = (before, [])
 line_and_previous n before (row ∷ rows) = if row.line == n then (before, row.text) else line_and_previous n row.text rows
 
 -- the details of a bad number in a line: the first line has vehicles and capacity, each other line has a task
-abbrev pub row_evidence : ReadFaultKind → List (List ℕ) → List ℕ → Evidence
-row_evidence kind words [] = numbers_evidence kind header_fields header_limits words
-row_evidence kind words (b ∷ before) = numbers_evidence kind task_fields task_limits words
+abbrev pub row_evidence : Scale → ReadFaultKind → List (List ℕ) → List ℕ → Evidence
+row_evidence scale kind words [] = numbers_evidence kind header_fields header_limits words
+row_evidence scale kind words (b ∷ before) = numbers_evidence kind task_fields (task_limits scale) words
 
 -- the number of a task, and that of the task before it, if the line before has a task
 abbrev pub order_evidence : List (List ℕ) → List (List ℕ) → Evidence
@@ -74,14 +75,14 @@ pair_evidence rows words =
     else (if delivery == 0 then partner_evidence words fields.Pickup pickup (find (is_task_line pickup) rows) else NamesBoth)
 
 -- the details of a fault in a line; `before` is the line before it
-abbrev pub line_evidence : List Row → List ℕ → List ℕ → ReadFaultKind → Evidence
-line_evidence rows before line TaskOrder = order_evidence (words_of before) (words_of line)
-line_evidence rows before line EmptyWindow = Window (word_at (words_of line) 4) (word_at (words_of line) 5)
-line_evidence rows before line PairMismatch = pair_evidence rows (words_of line)
-line_evidence rows before line Truncated = missing_line before
-line_evidence rows before line kind = row_evidence kind (words_of line) before
+abbrev pub line_evidence : Scale → List Row → List ℕ → List ℕ → ReadFaultKind → Evidence
+line_evidence scale rows before line TaskOrder = order_evidence (words_of before) (words_of line)
+line_evidence scale rows before line EmptyWindow = Window (word_at (words_of line) 4) (word_at (words_of line) 5)
+line_evidence scale rows before line PairMismatch = pair_evidence rows (words_of line)
+line_evidence scale rows before line Truncated = missing_line before
+line_evidence scale rows before line kind = row_evidence scale kind (words_of line) before
 
-abbrev pub lilim_evidence : List ℕ → ReadFault → Evidence
-lilim_evidence text fault =
+abbrev pub lilim_evidence : Scale → List ℕ → ReadFault → Evidence
+lilim_evidence scale text fault =
     let spot = line_and_previous fault.line [] (rows_of text) in
-    line_evidence (rows_of text) spot.0 spot.1 fault.kind
+    line_evidence scale (rows_of text) spot.0 spot.1 fault.kind

@@ -7,12 +7,14 @@ use Rattle.std.specs.Ordering.{int_eq}
 use Rattle.text_lines.specs.Words.{words_of}
 use Rattle.plan_types.specs.declared.requests.Request.{Request}
 use Rattle.plan_types.specs.declared.requests.Request.TheVariants.{Pair}
+use Rattle.instance_read.specs.declared.scales.Scale.{Scale}
 use Rattle.instance_read.specs.declared.tasks.Task.{Task}
 use Rattle.instance_read.specs.Fields.{value_at}
 use Rattle.instance_read.specs.Rows.{Row}
+use Rattle.instance_read.specs.Scales.{scaled_stop}
 
--- the task of a line, from the numbers at its places: its number, coordinates, demand, time window and service,
--- and the tasks that its last two fields name
+-- the task with this line number and these fields: its number, coordinates, demand, time window and service,
+-- and the numbers of its pickup and of its delivery
 abbrev pub task_from : ℕ → (ℕ → ℤ) → Task
 task_from line value = record {
   line = line;
@@ -29,8 +31,17 @@ task_from line value = record {
   delivery = unsigned_abs (value 8);
 }
 
+-- the task of a line, in the unit of the text
 unfoldable pub task_of : Row → Task
 task_of row = task_from row.line (value_at (words_of row.text))
+
+-- the task with its stop times the scale
+abbrev pub scaled_task : Scale → Task → Task
+scaled_task scale t = record t { stop = scaled_stop scale t.stop }
+
+-- the task of a line in a text with this scale
+abbrev pub task_in : Scale → Row → Task
+task_in scale row = scaled_task scale (task_of row)
 
 -- the task with this number
 abbrev pub find_task : ℕ → List Task → Option Task

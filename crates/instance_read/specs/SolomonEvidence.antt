@@ -14,6 +14,7 @@ use Rattle.instance_read.specs.declared.evidence.SolomonLine.TheVariants.{Name, 
 use Rattle.instance_read.specs.declared.faults.ReadFault.{ReadFault}
 use Rattle.instance_read.specs.declared.faults.ReadFaultKind.{ReadFaultKind}
 use Rattle.instance_read.specs.declared.faults.ReadFaultKind.TheVariants.{EmptyWindow, MissingKey, TaskOrder, Truncated}
+use Rattle.instance_read.specs.declared.scales.Scale.{Scale}
 
 abbrev pub fleet_fields : List Field
 fleet_fields = fields.Fleet ∷ fields.Capacity ∷ []
@@ -39,11 +40,11 @@ due_line_from n due before [] = (due, before, [])
 due_line_from n due before (row ∷ rows) = if row.line == n then (due, before, row.text) else due_line_from n (line_after due) row.text rows
 
 -- the details of a bad number in such a line
-abbrev pub due_evidence : ReadFaultKind → List (List ℕ) → SolomonLine → Evidence
-due_evidence kind words Fleet = numbers_evidence kind fleet_fields header_limits words
-due_evidence kind words Depot = numbers_evidence kind customer_fields customer_limits words
-due_evidence kind words Customer = numbers_evidence kind customer_fields customer_limits words
-due_evidence kind words _ = Nothing
+abbrev pub due_evidence : Scale → ReadFaultKind → List (List ℕ) → SolomonLine → Evidence
+due_evidence scale kind words Fleet = numbers_evidence kind fleet_fields header_limits words
+due_evidence scale kind words Depot = numbers_evidence kind customer_fields (customer_limits scale) words
+due_evidence scale kind words Customer = numbers_evidence kind customer_fields (customer_limits scale) words
+due_evidence scale kind words _ = Nothing
 
 -- the number of a customer, and that of the customer before it, if there is one
 abbrev pub order_evidence : List (List ℕ) → List (List ℕ) → SolomonLine → Evidence
@@ -51,14 +52,14 @@ order_evidence before words Customer = CustomerOutOfOrder (word_at words 0) (wor
 order_evidence before words _ = FirstCustomer (word_at words 0)
 
 -- the details of a fault in the line that is due; `before` is the line before it
-abbrev pub solomon_line_evidence : SolomonLine → List ℕ → List ℕ → ReadFaultKind → Evidence
-solomon_line_evidence due before line MissingKey = WrongWord due (word_at (words_of line) 0)
-solomon_line_evidence due before line TaskOrder = order_evidence (words_of before) (words_of line) due
-solomon_line_evidence due before line EmptyWindow = Window (word_at (words_of line) 4) (word_at (words_of line) 5)
-solomon_line_evidence due before line Truncated = MissingLine due
-solomon_line_evidence due before line kind = due_evidence kind (words_of line) due
+abbrev pub solomon_line_evidence : Scale → SolomonLine → List ℕ → List ℕ → ReadFaultKind → Evidence
+solomon_line_evidence scale due before line MissingKey = WrongWord due (word_at (words_of line) 0)
+solomon_line_evidence scale due before line TaskOrder = order_evidence (words_of before) (words_of line) due
+solomon_line_evidence scale due before line EmptyWindow = Window (word_at (words_of line) 4) (word_at (words_of line) 5)
+solomon_line_evidence scale due before line Truncated = MissingLine due
+solomon_line_evidence scale due before line kind = due_evidence scale kind (words_of line) due
 
-abbrev pub solomon_evidence : List ℕ → ReadFault → Evidence
-solomon_evidence text fault =
+abbrev pub solomon_evidence : Scale → List ℕ → ReadFault → Evidence
+solomon_evidence scale text fault =
     let spot = due_line_from fault.line Name [] (rows_of text) in
-    solomon_line_evidence spot.0 spot.1 spot.2 fault.kind
+    solomon_line_evidence scale spot.0 spot.1 spot.2 fault.kind

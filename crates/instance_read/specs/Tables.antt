@@ -1,16 +1,20 @@
 -- The facts about the tasks of a text whose lines have no fault.
-use Rattle.std.specs.Prelude.{◌≡◌, ℕ, ◌<◌, ◌⊎◌, false, List, [], ◌∷◌, Option, Some, None, find, slice_index_or, ◌==◌, ◌≤ℤ◌, pos}
+use Rattle.std.specs.Prelude.{◌≡◌, ℕ, ◌<◌, ◌^◌, ◌⊎◌, false, List, [], ◌∷◌, Option, Some, None, find, slice_index_or, ◌==◌, ◌≤ℤ◌, pos, FitsSigned}
+use Rattle.std.specs.Int.{w32}
 use Rattle.std.specs.Int.RustNames.{unsigned_abs}
 use Rattle.std.specs.List.{AllByRecursion, position_from}
 use Rattle.plan_types.specs.Limits.{IsCapacity, IsFleet, IsStop, IsVisit}
 use Rattle.plan_types.specs.declared.limits.TheConstants.{MAX_DEMAND}
+use Rattle.plan_types.specs.declared.requests.Stop.{Stop}
 use Rattle.instance_read.specs.declared.faults.ReadFault.{ReadFault}
 use Rattle.instance_read.specs.declared.faults.ReadFaultKind.TheVariants.{PairMismatch}
+use Rattle.instance_read.specs.declared.scales.Scale.{Scale}
 use Rattle.instance_read.specs.declared.tasks.FleetLine.{FleetLine}
 use Rattle.instance_read.specs.declared.tasks.Task.{Task}
 use Rattle.instance_read.specs.Faults.{out_of_memory}
 use Rattle.instance_read.specs.Fields.{value_at}
 use Rattle.instance_read.specs.Pairs.{is_mismatched}
+use Rattle.instance_read.specs.Scales.{times, times_ℤ}
 
 -- the place of the task with this number, from 0
 abbrev pub place_of : ℕ → List Task → Option ℕ
@@ -19,6 +23,14 @@ place_of n tasks = position_from (λ t. t.stop.number == n) 0 tasks
 -- the table has the place of each task at its number
 abbrev pub IsTable : List Task → List (Option ℕ) → Type 0
 IsTable tasks table = (n : ℕ) → slice_index_or table n None ≡ place_of n tasks
+
+-- the coordinates, the time window and the service time of a stop, times the scale, fit their types
+pub record IsScalable (scale : Scale) (s : Stop) : Type 0 where
+  pub x : FitsSigned w32 (times_ℤ scale s.x)
+  pub y : FitsSigned w32 (times_ℤ scale s.y)
+  pub earliest : times scale s.earliest < 2 ^ 32
+  pub latest : times scale s.latest < 2 ^ 32
+  pub service : times scale s.service < 2 ^ 32
 
 -- a customer's task within its limits
 pub record IsCustomer (t : Task) : Type 0 where

@@ -9,7 +9,7 @@ use Rattle.text_lines.specs.Numbers.{number_of}
 use Rattle.text_lines.specs.Lines.{lines_of}
 use Rattle.text_lines.specs.Words.{words_of}
 use Rattle.plan_types.specs.Instance.{Instance}
-use Rattle.plan_types.specs.declared.limits.TheConstants.{MAX_CAPACITY, MAX_COORDINATE, MAX_DEMAND, MAX_STOP_NUMBER, MAX_TIME}
+use Rattle.plan_types.specs.declared.limits.TheConstants.{MAX_CAPACITY, MAX_DEMAND, MAX_STOP_NUMBER, MAX_TIME}
 use Rattle.plan_types.specs.declared.requests.Kind.TheVariants.{Vrp}
 use Rattle.plan_types.specs.declared.requests.Request.TheVariants.{Single}
 use Rattle.plan_types.specs.declared.requests.Stop.{Stop}
@@ -18,6 +18,8 @@ use Rattle.instance_read.specs.declared.faults.ReadFaultKind.TheVariants.{BadNum
 use Rattle.instance_read.specs.Faults.{Class, OfLine, OfText, HasNoFault}
 use Rattle.instance_read.specs.Fields.{field, value_at, passes_test, has_no_number, is_beyond, any_beyond}
 use Rattle.instance_read.specs.Rows.{Row}
+use Rattle.instance_read.specs.Scales.{coordinate_range, times_ℤ}
+use Rattle.instance_read.specs.declared.scales.Scale.{Scale}
 use Rattle.instance_read.specs.declared.vrp_lines.Key.{Key}
 use Rattle.instance_read.specs.declared.vrp_lines.Key.TheVariants.{Dimension, Capacity, ProblemType, WeightType, Refused, Coordinates, Demands, Depots, End, StrayNumber, Ignored}
 use Rattle.instance_read.specs.declared.vrp_lines.Section.{Section}
@@ -101,7 +103,7 @@ abbrev pub refused_fault : ReadFaultKind → Bool
 refused_fault Unsupported = true
 refused_fault _ = false
 
--- the faults of a line of numbers that is in no section: it has too many words
+-- the fault of a line of numbers outside the sections: its number of words is wrong, as it should have none
 abbrev pub stray_fault : ReadFaultKind → Bool
 stray_fault FieldCount = true
 stray_fault _ = false
@@ -146,8 +148,8 @@ node_fault count limits taken words Range = any_beyond limits words
 node_fault count limits taken words NodeRepeated = passes_test taken (field words 0)
 node_fault count limits taken words _ = false
 
-abbrev pub coordinate_limits : ℕ → List (ℤ × ℤ)
-coordinate_limits nodes = (pos 1, pos nodes) ∷ (neg_ℤ MAX_COORDINATE, MAX_COORDINATE) ∷ (neg_ℤ MAX_COORDINATE, MAX_COORDINATE) ∷ []
+abbrev pub coordinate_limits : Scale → ℕ → List (ℤ × ℤ)
+coordinate_limits scale nodes = (pos 1, pos nodes) ∷ coordinate_range scale ∷ coordinate_range scale ∷ []
 
 abbrev pub demand_limits : ℕ → List (ℤ × ℤ)
 demand_limits nodes = (pos 1, pos nodes) ∷ (pos 0, MAX_DEMAND) ∷ []
@@ -175,12 +177,12 @@ depot_fault (suc seen) words DepotNotFirst = is_other (neg_ℤ (pos 1)) (field w
 depot_fault seen words _ = false
 
 -- the faults of a line in this section, after these lines
-abbrev pub place_fault : List Placed → Row → Section → ReadFaultKind → Bool
-place_fault before row Outside kind = key_fault (any_key Dimension before) (any_key (key_of row) before) (value_of row) (key_of row) kind
-place_fault before row (CoordinateLine n) kind = node_fault 3 (coordinate_limits (nodes_of before)) (has_node in_coordinates before) (words_of row.text) kind
-place_fault before row (DemandLine n) kind = node_fault 2 (demand_limits (nodes_of before)) (has_node in_demands before) (words_of row.text) kind
-place_fault before row (DepotLine seen) kind = depot_fault seen (words_of row.text) kind
-place_fault before row AfterEnd kind = false
+abbrev pub place_fault : Scale → List Placed → Row → Section → ReadFaultKind → Bool
+place_fault scale before row Outside kind = key_fault (any_key Dimension before) (any_key (key_of row) before) (value_of row) (key_of row) kind
+place_fault scale before row (CoordinateLine n) kind = node_fault 3 (coordinate_limits scale (nodes_of before)) (has_node in_coordinates before) (words_of row.text) kind
+place_fault scale before row (DemandLine n) kind = node_fault 2 (demand_limits (nodes_of before)) (has_node in_demands before) (words_of row.text) kind
+place_fault scale before row (DepotLine seen) kind = depot_fault seen (words_of row.text) kind
+place_fault scale before row AfterEnd kind = false
 
 -- a text must not end in this section
 abbrev pub is_inside : Section → Bool
@@ -193,52 +195,55 @@ abbrev pub lacks_key : List Placed → Bool
 lacks_key ps =
     not (any_key Dimension ps && any_key Capacity ps && any_key WeightType ps && any_key Coordinates ps && any_key Demands ps && any_key Depots ps)
 
--- the line where a text ends: that of EOF, or the one after the last
+-- the line at which a text ends: that of EOF, or the one after the last
 abbrev pub end_line : List ℕ → ℕ
 end_line text = option_map_or (λ (row : Row). row.line) (first_key End (placed_of text)) (length (lines_of text) + 1)
 
--- all faults of a text
-abbrev pub VrpFault : List ℕ → Class → ℕ → ReadFaultKind → Type 0
+-- all faults of a text that is read with this scale
+abbrev pub VrpFault : Scale → List ℕ → Class → ℕ → ReadFaultKind → Type 0
 -- a line that is read has a fault
-VrpFault text OfLine line kind =
+VrpFault scale text OfLine line kind =
     (before : List Placed) × (p : Placed) × (after : List Placed)
-    × (placed_of text ≡ before ++ p ∷ after) × (p.row.line ≡ line) × (place_fault before p.row p.place kind ≡ true)
+    × (placed_of text ≡ before ++ p ∷ after) × (p.row.line ≡ line) × (place_fault scale before p.row p.place kind ≡ true)
 -- the text ends inside a section
-VrpFault text OfText line Truncated = (is_inside (end_place text) ≡ true) × (line ≡ length (lines_of text) + 1)
+VrpFault scale text OfText line Truncated = (is_inside (end_place text) ≡ true) × (line ≡ length (lines_of text) + 1)
 -- the text ends outside the sections, and lacks a key or a section
-VrpFault text OfText line MissingKey =
+VrpFault scale text OfText line MissingKey =
     (is_inside (end_place text) ≡ false) × (lacks_key (placed_of text) ≡ true) × (line ≡ end_line text)
-VrpFault text OfText line _ = ⊥
+VrpFault scale text OfText line _ = ⊥
 
 -- the number at place k of a node's line
 abbrev pub node_value : (Section → Bool) → List Placed → ℕ → ℕ → ℤ
 node_value section ps node k = option_map_or (λ (p : Placed). value_at (words_of p.row.text) k) (find (is_node_line section (pos node)) ps) (pos 0)
 
--- node n+1 as stop n, with this demand; the format has no time windows and no service times
-abbrev pub node_stop : List Placed → ℤ → ℕ → Stop
-node_stop ps demand n = record {
+-- node n+1 as stop n, with coordinates times the scale and with this demand; the format has no time windows and
+-- no service times
+abbrev pub node_stop : Scale → List Placed → ℤ → ℕ → Stop
+node_stop scale ps demand n = record {
   number = n;
-  x = node_value in_coordinates ps (n + 1) 1;
-  y = node_value in_coordinates ps (n + 1) 2;
+  x = times_ℤ scale (node_value in_coordinates ps (n + 1) 1);
+  y = times_ℤ scale (node_value in_coordinates ps (n + 1) 2);
   demand = demand;
   earliest = 0;
   latest = MAX_TIME;
   service = 0;
 }
 
--- the problem of these lines: node 1 is the depot, each other node is a customer with its demand
-abbrev pub vrp_problem : List Placed → Instance
-vrp_problem ps =
+-- the problem of these lines, read with this scale: node 1 is the depot, each other node is a customer with its
+-- demand
+abbrev pub vrp_problem : Scale → List Placed → Instance
+vrp_problem scale ps =
     let nodes = nodes_of ps in
     record {
       kind = Vrp;
-      depot = node_stop ps (pos 0) 0;
+      depot = node_stop scale ps (pos 0) 0;
       capacity = option_map_or (λ row. unsigned_abs (value_at (value_words row) 0)) (first_key Capacity ps) 0;
       fleet = nodes - 1;
-      requests = map (λ n. (n, Single (node_stop ps (node_value in_demands ps (n + 1) 1) n))) (range_with_len 1 (nodes - 1));
+      requests = map (λ n. (n, Single (node_stop scale ps (node_value in_demands ps (n + 1) 1) n))) (range_with_len 1 (nodes - 1));
       next_number = nodes;
     }
 
--- a text spells a problem: the text has no fault, and the problem is that of its lines
-abbrev pub SpellsVrp : List ℕ → Instance → Type 0
-SpellsVrp text problem = HasNoFault (VrpFault text) × (problem ≡ vrp_problem (placed_of text))
+-- a text that is read with this scale spells a problem: the text has no fault, and the problem is that of its
+-- lines
+abbrev pub SpellsVrp : Scale → List ℕ → Instance → Type 0
+SpellsVrp scale text problem = HasNoFault (VrpFault scale text) × (problem ≡ vrp_problem scale (placed_of text))

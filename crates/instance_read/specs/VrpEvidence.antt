@@ -1,11 +1,13 @@
 -- The details of a fault that a line of a `.vrp` text shows.
-use Rattle.std.specs.Prelude.{ℕ, ◌==◌, if◌then◌else◌, List, [], ◌∷◌, length, Option, Some, None, ℤ, pos, neg_ℤ, unwrap_or}
+use Rattle.std.specs.Prelude.{ℕ, ◌==◌, if◌then◌else◌, List, [], ◌∷◌, length, Option, Some, None, ℤ, pos, unwrap_or}
 use Rattle.std.specs.Int.RustNames.{unsigned_abs}
 use Rattle.std.specs.Option.{option_map}
 use Rattle.text_lines.specs.Numbers.{first_number, within}
 use Rattle.text_lines.specs.Words.{words_of}
-use Rattle.plan_types.specs.declared.limits.TheConstants.{MAX_CAPACITY, MAX_COORDINATE, MAX_DEMAND}
+use Rattle.plan_types.specs.declared.limits.TheConstants.{MAX_CAPACITY, MAX_DEMAND}
 use Rattle.instance_read.specs.Rows.{Row, rows_of}
+use Rattle.instance_read.specs.Scales.{coordinate_range}
+use Rattle.instance_read.specs.declared.scales.Scale.{Scale}
 use Rattle.instance_read.specs.Vrp.{key_number, max_nodes}
 use Rattle.instance_read.specs.VrpLines.{key_from, key_of, key_text, place_after, trimmed, value_text, value_words}
 use Rattle.instance_read.specs.WordEvidence.{numbers_evidence}
@@ -93,23 +95,23 @@ keyed_evidence rows nodes line key kind = value_evidence kind nodes (words_of (v
 abbrev pub key_evidence : List Row → Option ℤ → List ℕ → ReadFaultKind → Evidence
 key_evidence rows nodes line kind = keyed_evidence rows nodes line (key_from (key_text line) (trimmed line)) kind
 
-abbrev pub point_limits : ℤ → List (ℤ × ℤ)
-point_limits nodes = (pos 1, nodes) ∷ (neg_ℤ MAX_COORDINATE, MAX_COORDINATE) ∷ (neg_ℤ MAX_COORDINATE, MAX_COORDINATE) ∷ []
+abbrev pub point_limits : Scale → ℤ → List (ℤ × ℤ)
+point_limits scale nodes = (pos 1, nodes) ∷ coordinate_range scale ∷ coordinate_range scale ∷ []
 
 abbrev pub amount_limits : ℤ → List (ℤ × ℤ)
 amount_limits nodes = (pos 1, nodes) ∷ (pos 0, MAX_DEMAND) ∷ []
 
 -- the details of a fault in a line in this section; `nodes` is the number of nodes announced so far
-abbrev pub place_evidence : List Row → Option ℤ → List ℕ → ReadFaultKind → Section → Evidence
-place_evidence rows nodes line kind Outside = key_evidence rows nodes line kind
-place_evidence rows nodes line kind (CoordinateLine left) =
-    node_evidence kind (Node ∷ X ∷ Y ∷ []) (point_limits (unwrap_or nodes (pos 0))) Coordinates left (words_of line)
-place_evidence rows nodes line kind (DemandLine left) =
+abbrev pub place_evidence : Scale → List Row → Option ℤ → List ℕ → ReadFaultKind → Section → Evidence
+place_evidence scale rows nodes line kind Outside = key_evidence rows nodes line kind
+place_evidence scale rows nodes line kind (CoordinateLine left) =
+    node_evidence kind (Node ∷ X ∷ Y ∷ []) (point_limits scale (unwrap_or nodes (pos 0))) Coordinates left (words_of line)
+place_evidence scale rows nodes line kind (DemandLine left) =
     node_evidence kind (Node ∷ Demand ∷ []) (amount_limits (unwrap_or nodes (pos 0))) Demands left (words_of line)
-place_evidence rows nodes line kind (DepotLine seen) = depot_evidence kind (words_of line)
-place_evidence rows nodes line kind AfterEnd = evidence.Nothing
+place_evidence scale rows nodes line kind (DepotLine seen) = depot_evidence kind (words_of line)
+place_evidence scale rows nodes line kind AfterEnd = evidence.Nothing
 
-abbrev pub vrp_evidence : List ℕ → ReadFault → Evidence
-vrp_evidence text fault =
+abbrev pub vrp_evidence : Scale → List ℕ → ReadFault → Evidence
+vrp_evidence scale text fault =
     let at = line_from fault.line None Outside (rows_of text) in
-    place_evidence (rows_of text) at.0 at.2 fault.kind at.1
+    place_evidence scale (rows_of text) at.0 at.2 fault.kind at.1

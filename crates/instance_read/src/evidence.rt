@@ -103,7 +103,8 @@ pub enum Evidence<'a> {
         section: Key,
         lacks: u32,
     },
-    /// The first word of the line that is at fault: its field, the word, and the limits of the field.
+    /// The first word of the line that is at fault: its field, the word, and the limits of the field in the unit
+    /// of the text.
     Word {
         field: Field,
         word: Excerpt<'a>,
@@ -184,8 +185,8 @@ pub fn evidence_of<'a>(format: Format, text: &'a [u8], fault: ReadFault) -> Evid
     ensures is { result ≡ evidence_of format text.now fault }
 {
     match format.layout {
-        Layout::LiLim => lilim_evidence(text, fault),
-        Layout::Solomon => solomon_evidence(text, fault),
-        Layout::Vrp => vrp_evidence(text, fault),
+        Layout::LiLim => lilim_evidence(format.scale, text, fault),
+        Layout::Solomon => solomon_evidence(format.scale, text, fault),
+        Layout::Vrp => vrp_evidence(format.scale, text, fault),
     }
 }

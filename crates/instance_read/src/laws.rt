@@ -1,4 +1,5 @@
-//! The lines and sections of a `.vrp` text, and that every text is read, as laws about every text.
+//! Laws: what the keys and the sections of a `.vrp` text are, that each text has exactly one reading, and what
+//! the evidence for a bad number is.
 ghost use Rattle.instance_read.specs.EvidenceLaws.{EvidenceShowsTheWord, NumbersShowTheWord, SolomonEvidenceShowsTheWord};
 ghost use Rattle.instance_read.specs.Readable.{TextsHaveAReading, ReadingsAreUnique};
 ghost use Rattle.instance_read.specs.VrpKeys.{KeyLinesFollowGrammar};
@@ -32,8 +33,8 @@ pub fn eof_is_the_end()
     ensures { EndIsTheEnd }
 {}
 
-/// States that every text spells one problem or has one first fault, in any format. So the result of reading is
-/// a function of the text.
+/// States that every text spells exactly one problem, or else has exactly one first fault, in any format. So the
+/// text alone decides the result of reading, unless memory runs out.
 pub fn every_text_has_one_reading()
     ensures some { TextsHaveAReading }
     ensures one { ReadingsAreUnique }

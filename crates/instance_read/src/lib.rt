@@ -21,6 +21,7 @@
 //! Modules, in reading order:
 //! - `faults`: the reasons why a text is refused
 //! - `rows`: the lines that are read, with their numbers
+//! - `scales`: the factor by which the numbers of a text are multiplied
 //! - `field_limits`: the limits of the numbers in a line
 //! - `fields`: the numbers of a line, within limits
 //! - `tasks`: the header and the tasks of a Li-Lim text; a customer in Solomon's format is read as a task, too
@@ -60,6 +61,7 @@ mod number_evidence;
 mod pairs;
 mod put;
 mod rows;
+mod scales;
 mod singles;
 mod solomon;
 mod solomon_evidence;
@@ -82,6 +84,7 @@ pub use laws::{
     key_lines_follow_grammar, other_lines_stay_outside, sections_have_a_line_for_each_node,
 };
 pub use lilim::read_lilim;
+pub use scales::Scale;
 pub use solomon::read_solomon;
 pub use vrp::read_vrp;
 pub use vrp_lines::{Key, split_key};

@@ -3,12 +3,14 @@ ghost use Rattle.std.specs.Prelude.{◌≡◌, IfOk, IfErr, MatchResult, None, m
 ghost use Rattle.instance_read.specs.Faults.{ReportsFirstFault};
 ghost use Rattle.instance_read.specs.HeadingLines.{truncated_after};
 ghost use Rattle.instance_read.specs.Lilim.{LilimFault, SpellsLilim};
-ghost use Rattle.instance_read.specs.Pairs.{task_of};
+ghost use Rattle.instance_read.specs.Pairs.{task_in};
 ghost use Rattle.instance_read.specs.TaskFaults.{AreStopLimits, HasNoStopFault, LinesAbove, ReportsStopFault};
+ghost use Rattle.instance_read.specs.declared.scales.Scale.TheVariants.{One};
 
-use crate::field_limits::{Limits, TASK};
+use crate::field_limits::{Limits, task_limits};
 use crate::pairs::pair_up;
 use crate::rows::NumberedLines;
+use crate::scales::Scale;
 use crate::tasks::{FleetLine, Task};
 use crate::{ReadFault, ReadFaultKind};
 use plan_types::Problem;
@@ -27,8 +29,16 @@ use text_lines::Lines;
 /// text. For one line, the order is `FieldCount`, `BadNumber`, `TooManyStops`, `Range`, `TaskOrder`,
 /// `EmptyWindow`.
 pub fn read_lilim(alloc: Global, text: &[u8]) -> Result<Problem, ReadFault>
-    ensures value { IfOk result (SpellsLilim text.now) }
-    ensures fault { IfErr result (ReportsFirstFault (LilimFault text.now)) }
+    ensures value { IfOk result (SpellsLilim One text.now) }
+    ensures fault { IfErr result (ReportsFirstFault (LilimFault One text.now)) }
+{
+    read_lilim_scaled(alloc, Scale::One, text)
+}
+
+/// Like `read_lilim`, for a text with this scale.
+pub fn read_lilim_scaled(alloc: Global, scale: Scale, text: &[u8]) -> Result<Problem, ReadFault>
+    ensures value { IfOk result (SpellsLilim scale text.now) }
+    ensures fault { IfErr result (ReportsFirstFault (LilimFault scale text.now)) }
 {
     let mut lines = NumberedLines::new(text);
     let Some(first) = lines.next() else {
@@ -43,7 +53,7 @@ pub fn read_lilim(alloc: Global, text: &[u8]) -> Result<Problem, ReadFault>
             });
         }
     };
-    let tasks = read_tasks(alloc, &TASK, lines)?;
+    let tasks = read_tasks(alloc, scale, &task_limits(scale), lines)?;
     match tasks.as_slice() {
         [] => Err(truncated(text)),
         [depot, customers @ ..] => pair_up(alloc, header, depot, customers),
@@ -53,19 +63,20 @@ pub fn read_lilim(alloc: Global, text: &[u8]) -> Result<Problem, ReadFault>
 /// Reads the tasks of these lines. `limits` are those of their fields.
 pub fn read_tasks<const N: usize>(
     alloc: Global,
+    scale: Scale,
     limits: &[Limits; N],
     lines: NumberedLines<'_>,
 ) -> Result<Vec<Task>, ReadFault>
-    requires limits { AreStopLimits limits.now }
+    requires limits { AreStopLimits scale limits.now }
     requires lines { LinesAbove 0 lines }
     ensures ok { IfOk result (λ tasks. HasNoStopFault limits.now None lines.entry
-        × (tasks.items ≡ map task_of lines.entry)) }
+        × (tasks.items ≡ map (task_in scale) lines.entry)) }
     ensures err { IfErr result (ReportsStopFault limits.now None lines.entry) }
 {
     let mut tasks: Vec<Task> = Vec::new(alloc);
     for line in lines {
         let previous = tasks.last().copied();
-        match Task::read(limits, previous, line.number, line.text) {
+        match Task::read(scale, limits, previous, line.number, line.text) {
             Ok(task) => tasks.push(task)?,
             Err(kind) => {
                 return Err(ReadFault {

@@ -7,9 +7,10 @@ ghost use Rattle.instance_read.specs.RowViews.{row_view};
 ghost use Rattle.instance_read.specs.Rows.{rows_of};
 
 use crate::evidence::{Evidence, Excerpt, Field};
-use crate::field_limits::{HEADER, TASK};
+use crate::field_limits::{HEADER, task_limits};
 use crate::number_evidence::{is_beyond, numbers_evidence, stop_at, word_at};
 use crate::rows::{NumberedLine, NumberedLines};
+use crate::scales::Scale;
 use crate::{ReadFault, ReadFaultKind};
 use plan_types::limits::MAX_DEMAND;
 use text_lines::word_count;
@@ -29,8 +30,8 @@ const TASK_FIELDS: [Field; 9] = [
 ];
 
 /// Returns the details of a fault that its line shows.
-pub fn lilim_evidence<'a>(text: &'a [u8], fault: ReadFault) -> Evidence<'a>
-    ensures { result ≡ lilim_evidence text.now fault }
+pub fn lilim_evidence<'a>(scale: Scale, text: &'a [u8], fault: ReadFault) -> Evidence<'a>
+    ensures { result ≡ lilim_evidence scale text.now fault }
 {
     let (before, line) = line_and_previous(text, fault.line);
     let line = line.bytes();
@@ -42,7 +43,7 @@ pub fn lilim_evidence<'a>(text: &'a [u8], fault: ReadFault) -> Evidence<'a>
         },
         ReadFaultKind::PairMismatch => pair_evidence(text, line),
         ReadFaultKind::Truncated => missing_line(before.bytes()),
-        kind => row_evidence(kind, before.bytes(), line),
+        kind => row_evidence(scale, kind, before.bytes(), line),
     }
 }
 
@@ -62,12 +63,17 @@ fn line_and_previous<'a>(text: &'a [u8], number: u64) -> (Excerpt<'a>, Excerpt<'
 }
 
 // Returns the details of a bad number in the first line, or in a task.
-fn row_evidence<'a>(kind: ReadFaultKind, before: &[u8], line: &'a [u8]) -> Evidence<'a>
-    ensures { result ≡ row_evidence kind (words_of line.now) before.now }
+fn row_evidence<'a>(
+    scale: Scale,
+    kind: ReadFaultKind,
+    before: &[u8],
+    line: &'a [u8],
+) -> Evidence<'a>
+    ensures { result ≡ row_evidence scale kind (words_of line.now) before.now }
 {
     match before {
         [] => numbers_evidence(kind, line, &HEADER_FIELDS, &HEADER),
-        _ => numbers_evidence(kind, line, &TASK_FIELDS, &TASK),
+        _ => numbers_evidence(kind, line, &TASK_FIELDS, &task_limits(scale)),
     }
 }
 

@@ -1,6 +1,6 @@
 //! The pairs that tasks form: a pickup and a delivery that name each other, with demands that cancel out.
 //!
-//! A table has the place of each task by its number, so finding a task needs no search.
+//! A table holds, at each task's number, the place of the task in the list. So finding a task needs no search.
 ghost use Rattle.std.specs.Prelude.{◌≡◌, ◌+◌, ◌<◌, ◌≤◌, ℕ, [], All, IfErr, IfOk, IfSome, OnOk, None, Some, find, length};
 ghost use Rattle.std.specs.List.{AllByRecursion};
 ghost use Rattle.std.specs.Option.{option_copied, option_map};

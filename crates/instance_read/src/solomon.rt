@@ -7,10 +7,13 @@ ghost use Rattle.instance_read.specs.HeadingLines.{ArePassed, HasFleet, IsFleetL
 ghost use Rattle.instance_read.specs.RowViews.{row_view};
 ghost use Rattle.instance_read.specs.Solomon.{LinesFault, SolomonFault, SpellsSolomon, begins_with, fleet_fault, heading, word_fault};
 ghost use Rattle.instance_read.specs.TaskFaults.{LinesAbove};
+ghost use Rattle.instance_read.specs.declared.scales.Scale.{Scale};
+ghost use Rattle.instance_read.specs.declared.scales.Scale.TheVariants.{One};
 
-use crate::field_limits::CUSTOMER;
+use crate::field_limits::customer_limits;
 use crate::lilim::{read_tasks, truncated};
 use crate::rows::{NumberedLine, NumberedLines};
+use crate::scales::Scale;
 use crate::singles::problem_of_singles;
 use crate::tasks::FleetLine;
 use crate::vrp_lines::is_word;
@@ -32,12 +35,20 @@ use text_lines::Words;
 /// means that there is no depot. For one line, the order is `FieldCount`, `BadNumber`, `TooManyStops`, `Range`,
 /// `TaskOrder`, `EmptyWindow`; `MissingKey` is the only fault of a line that must begin with a word.
 pub fn read_solomon(alloc: Global, text: &[u8]) -> Result<Problem, ReadFault>
-    ensures value { IfOk result (SpellsSolomon text.now) }
-    ensures fault { IfErr result (ReportsFirstFault (SolomonFault text.now)) }
+    ensures value { IfOk result (SpellsSolomon One text.now) }
+    ensures fault { IfErr result (ReportsFirstFault (SolomonFault One text.now)) }
+{
+    read_solomon_scaled(alloc, Scale::One, text)
+}
+
+/// Like `read_solomon`, for a text with this scale.
+pub fn read_solomon_scaled(alloc: Global, scale: Scale, text: &[u8]) -> Result<Problem, ReadFault>
+    ensures value { IfOk result (SpellsSolomon scale text.now) }
+    ensures fault { IfErr result (ReportsFirstFault (SolomonFault scale text.now)) }
 {
     let mut lines = NumberedLines::new(text);
     let header = read_heading(&mut lines, text)?;
-    let tasks = read_tasks(alloc, &CUSTOMER, lines)?;
+    let tasks = read_tasks(alloc, scale, &customer_limits(scale), lines)?;
     match tasks.as_slice() {
         [] => Err(truncated(text)),
         [depot, customers @ ..] => problem_of_singles(alloc, header, depot, customers),
@@ -49,7 +60,8 @@ fn read_heading(lines: &mut NumberedLines<'_>, text: &[u8]) -> Result<FleetLine,
     requires { LinesAbove 0 lines.old }
     ensures { MatchResult result
         (λ header. ArePassed heading lines.old lines.new × HasFleet lines.old header)
-        (IsFirstFault (LinesFault (length (lines_of text.now) + 1) heading lines.old)) }
+        (λ fault. (scale : Scale) → IsFirstFault
+        (LinesFault scale (length (lines_of text.now) + 1) heading lines.old) fault) }
 {
     next_line(lines, text)?;
     pass_word(lines, text, b"VEHICLE")?;

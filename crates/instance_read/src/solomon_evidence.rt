@@ -6,9 +6,10 @@ ghost use Rattle.instance_read.specs.SolomonEvidence.{due_evidence, due_line_fro
 ghost use Rattle.instance_read.specs.declared.evidence.SolomonLine.TheVariants.{Name};
 
 use crate::evidence::{Evidence, Excerpt, Field, SolomonLine};
-use crate::field_limits::{CUSTOMER, HEADER};
+use crate::field_limits::{HEADER, customer_limits};
 use crate::number_evidence::{numbers_evidence, word_at};
 use crate::rows::NumberedLines;
+use crate::scales::Scale;
 use crate::{ReadFault, ReadFaultKind};
 
 const FLEET_FIELDS: [Field; 2] = [Field::Fleet, Field::Capacity];
@@ -24,8 +25,8 @@ const CUSTOMER_FIELDS: [Field; 7] = [
 ];
 
 /// Returns the details of a fault that its line shows.
-pub fn solomon_evidence<'a>(text: &'a [u8], fault: ReadFault) -> Evidence<'a>
-    ensures { result ≡ solomon_evidence text.now fault }
+pub fn solomon_evidence<'a>(scale: Scale, text: &'a [u8], fault: ReadFault) -> Evidence<'a>
+    ensures { result ≡ solomon_evidence scale text.now fault }
 {
     let (due, before, line) = due_line(text, fault.line);
     let line = line.bytes();
@@ -37,7 +38,7 @@ pub fn solomon_evidence<'a>(text: &'a [u8], fault: ReadFault) -> Evidence<'a>
             latest: word_at(line, 5),
         },
         ReadFaultKind::Truncated => Evidence::MissingLine(due),
-        kind => due_evidence(kind, due, line),
+        kind => due_evidence(scale, kind, due, line),
     }
 }
 
@@ -74,13 +75,18 @@ fn line_after(due: SolomonLine) -> SolomonLine
 }
 
 // Returns the details of a bad number in the line that is due.
-fn due_evidence<'a>(kind: ReadFaultKind, due: SolomonLine, line: &'a [u8]) -> Evidence<'a>
-    ensures { result ≡ due_evidence kind (words_of line.now) due }
+fn due_evidence<'a>(
+    scale: Scale,
+    kind: ReadFaultKind,
+    due: SolomonLine,
+    line: &'a [u8],
+) -> Evidence<'a>
+    ensures { result ≡ due_evidence scale kind (words_of line.now) due }
 {
     match due {
         SolomonLine::Fleet => numbers_evidence(kind, line, &FLEET_FIELDS, &HEADER),
         SolomonLine::Depot | SolomonLine::Customer => {
-            numbers_evidence(kind, line, &CUSTOMER_FIELDS, &CUSTOMER)
+            numbers_evidence(kind, line, &CUSTOMER_FIELDS, &customer_limits(scale))
         }
         _ => Evidence::Nothing,
     }

@@ -4,14 +4,15 @@ ghost use Rattle.std.specs.Prelude.{◌≡◌, pos, int_lt, if◌then◌else◌,
 ghost use Rattle.text_lines.specs.Words.{words_of};
 ghost use Rattle.instance_read.specs.Fields.{field, passes_test, value_at};
 ghost use Rattle.instance_read.specs.Lilim.{header_fault, header_limits, is_out_of_order, stop_fault};
-ghost use Rattle.instance_read.specs.Pairs.{task_from};
+ghost use Rattle.instance_read.specs.Pairs.{scaled_task, task_from};
 ghost use Rattle.instance_read.specs.FieldValues.{numbers_fault};
-ghost use Rattle.instance_read.specs.Tables.{IsHeader};
+ghost use Rattle.instance_read.specs.Tables.{IsHeader, IsScalable};
 ghost use Rattle.instance_read.specs.TaskFaults.{AreStopLimits, ReadsValue};
 
 use crate::ReadFaultKind;
 use crate::field_limits::{HEADER, Limits};
 use crate::fields::{has_no_number, next_values, range_kind, read_numbers};
+use crate::scales::Scale;
 use plan_types::Stop;
 use plan_types::limits::MAX_STOP_NUMBER;
 use text_lines::{Words, word_count};
@@ -74,15 +75,16 @@ impl Task {
     /// those of its fields, and `previous` is the task of the line before it. Without the fields `pickup` and
     /// `delivery`, the task names no other.
     pub fn read<const N: usize>(
+        scale: Scale,
         limits: &[Limits; N],
         previous: Option<Task>,
         number: u64,
         line: &[u8],
     ) -> Result<Task, ReadFaultKind>
-        requires limits { AreStopLimits limits.now }
+        requires limits { AreStopLimits scale limits.now }
         ensures { let words = words_of line.now in
             ReadsValue (stop_fault limits.now previous words)
-            (λ task. task ≡ task_from number (value_at words)) result }
+            (λ task. task ≡ scaled_task scale (task_from number (value_at words))) result }
     {
         let values = match read_numbers(line, limits) {
             Ok(values) => values,
@@ -96,7 +98,23 @@ impl Task {
         if task.stop.latest < task.stop.earliest {
             return Err(ReadFaultKind::EmptyWindow);
         }
-        Ok(task)
+        Ok(task.scaled(scale))
+    }
+
+    // Returns the task with its coordinates, its time window and its service time times the scale.
+    fn scaled(self, scale: Scale) -> Task
+        requires { IsScalable scale self.stop }
+        ensures { result ≡ scaled_task scale self }
+    {
+        let stop = Stop {
+            x: scale.times_signed(self.stop.x),
+            y: scale.times_signed(self.stop.y),
+            earliest: scale.times(self.stop.earliest),
+            latest: scale.times(self.stop.latest),
+            service: scale.times(self.stop.service),
+            ..self.stop
+        };
+        Task { stop, ..self }
     }
 
     #[inline(always)]

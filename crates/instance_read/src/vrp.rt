@@ -10,9 +10,11 @@ ghost use Rattle.instance_read.specs.Faults.{ReportsFirstFault};
 ghost use Rattle.instance_read.specs.Vrp.{SpellsVrp, VrpFault, is_inside};
 ghost use Rattle.instance_read.specs.VrpLines.{end_from};
 ghost use Rattle.instance_read.specs.DraftLines.{HasNoLineFault, IsDraftOfLines, ReportsLine, draft_lacks_key, placed_rows};
+ghost use Rattle.instance_read.specs.declared.scales.Scale.TheVariants.{One};
 ghost use Rattle.instance_read.specs.declared.vrp_lines.Section.TheVariants.{Outside};
 
 use crate::rows::NumberedLines;
+use crate::scales::Scale;
 use crate::vrp_draft::VrpDraft;
 use crate::vrp_lines::{Key, Section};
 use crate::vrp_problem::problem_of;
@@ -33,10 +35,18 @@ use text_lines::Lines;
 /// text. For one line, the order is `FieldCount`, `BadNumber`, `TooManyStops`, `Range`, `Unsupported`,
 /// `MissingKey`, `NodeRepeated`, `DepotNotFirst`.
 pub fn read_vrp(alloc: Global, text: &[u8]) -> Result<Problem, ReadFault>
-    ensures value { IfOk result (SpellsVrp text.now) }
-    ensures fault { IfErr result (ReportsFirstFault (VrpFault text.now)) }
+    ensures value { IfOk result (SpellsVrp One text.now) }
+    ensures fault { IfErr result (ReportsFirstFault (VrpFault One text.now)) }
 {
-    let (draft, place) = read_lines(alloc, NumberedLines::new(text))?;
+    read_vrp_scaled(alloc, Scale::One, text)
+}
+
+/// Like `read_vrp`, for a text with this scale.
+pub fn read_vrp_scaled(alloc: Global, scale: Scale, text: &[u8]) -> Result<Problem, ReadFault>
+    ensures value { IfOk result (SpellsVrp scale text.now) }
+    ensures fault { IfErr result (ReportsFirstFault (VrpFault scale text.now)) }
+{
+    let (draft, place) = read_lines(alloc, scale, NumberedLines::new(text))?;
     if is_inside(place) {
         return Err(ReadFault {
             line: line_after(text),
@@ -53,14 +63,19 @@ pub fn read_vrp(alloc: Global, text: &[u8]) -> Result<Problem, ReadFault>
 }
 
 // Returns the data of the lines, and the section after the last one.
-fn read_lines(alloc: Global, lines: NumberedLines<'_>) -> Result<(VrpDraft, Section), ReadFault>
+fn read_lines(
+    alloc: Global,
+    scale: Scale,
+    lines: NumberedLines<'_>,
+) -> Result<(VrpDraft, Section), ReadFault>
     ensures ok { let placed = placed_rows lines.entry in IfOk result (λ r. IsDraftOfLines placed r.0
         × IsDraft r.0
-        × HasNoLineFault placed
+        × (r.0.scale ≡ scale)
+        × HasNoLineFault scale placed
         × (r.1 ≡ end_from None Outside lines.entry)) }
-    ensures err { IfErr result (ReportsLine (placed_rows lines.entry)) }
+    ensures err { IfErr result (ReportsLine scale (placed_rows lines.entry)) }
 {
-    let mut draft = VrpDraft::new(alloc);
+    let mut draft = VrpDraft::new(alloc, scale);
     let mut place = Section::Outside;
     for line in lines {
         match draft.take(alloc, place, &line) {

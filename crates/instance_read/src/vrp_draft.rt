@@ -8,6 +8,7 @@ ghost use Rattle.instance_read.specs.TaskFaults.{HasNoKind, IsFirstKind};
 use crate::ReadFaultKind;
 use crate::entries::entry_of;
 use crate::rows::NumberedLine;
+use crate::scales::Scale;
 use crate::vrp_fields::{
     expect_word, open_section, read_capacity, read_coordinates, read_demand, read_depots,
     read_dimension,
@@ -19,12 +20,14 @@ use text_lines::word_count;
 /// The data from the lines read so far.
 #[derive(Drop)]
 pub struct VrpDraft {
+    /// The factor by which the coordinates are multiplied in the problem.
+    pub scale: Scale,
     /// Whether each key has occurred, by the key's index.
     pub seen: [bool; KEYS],
     /// The number of nodes that DIMENSION announces.
     pub nodes: Option<u32>,
     pub capacity: Option<u32>,
-    /// Indexed by node, from node 1. An entry is `None` until its line is read. The table is empty before its
+    /// In the unit of the text. Indexed by node, from node 1. An entry is `None` until its line is read. The table is empty before its
     /// section.
     pub coordinates: Vec<Option<(i32, i32)>>,
     pub demands: Vec<Option<i32>>,
@@ -41,12 +44,14 @@ impl VrpDraft {
     ghost use Rattle.instance_read.specs.VrpLines.{place_after, place_after_key, key_of, value_of};
 
     /// Returns the draft before the first line.
-    pub fn new(alloc: Global) -> VrpDraft
+    pub fn new(alloc: Global, scale: Scale) -> VrpDraft
         ensures known { IsDraftOfLines [] result }
+        ensures scale { result.scale ≡ scale }
         ensures valid { IsDraft result }
         ensures nodes { result.nodes ≡ None }
     {
         VrpDraft {
+            scale,
             seen: [false; KEYS],
             nodes: None,
             capacity: None,
@@ -166,7 +171,7 @@ impl VrpDraft {
         requires fits { length self.old.coordinates.items ≡ nodes_in self.old }
         ensures { TakesNode self.old text.now (Section.CoordinateLine 0) self.new result }
     {
-        let (node, point) = read_coordinates(self.node_count(), text)?;
+        let (node, point) = read_coordinates(self.scale, self.node_count(), text)?;
         put_once(&mut self.coordinates, node, point)
     }
 

@@ -10,16 +10,17 @@ ghost use Rattle.instance_read.specs.VrpLines.{key_of, place_after};
 ghost use Rattle.instance_read.specs.declared.vrp_lines.Section.TheVariants.{Outside};
 
 use crate::evidence::{Evidence, Excerpt, Field};
-use crate::field_limits::{CAPACITY, COORDINATE, DIMENSION, Limits, NODE_DEMAND};
+use crate::field_limits::{CAPACITY, DIMENSION, Limits, NODE_DEMAND, coordinate_range};
 use crate::number_evidence::numbers_evidence;
 use crate::rows::{NumberedLine, NumberedLines};
+use crate::scales::Scale;
 use crate::vrp_lines::{Key, Section, read_key, split_key};
 use crate::{ReadFault, ReadFaultKind};
 use text_lines::{Words, word_count};
 
 /// Returns the details of a fault that its line shows.
-pub fn vrp_evidence<'a>(text: &'a [u8], fault: ReadFault) -> Evidence<'a>
-    ensures { result ≡ vrp_evidence text.now fault }
+pub fn vrp_evidence<'a>(scale: Scale, text: &'a [u8], fault: ReadFault) -> Evidence<'a>
+    ensures { result ≡ vrp_evidence scale text.now fault }
 {
     let (nodes, place, line) = placed_line(text, fault.line);
     let line = line.bytes();
@@ -28,7 +29,8 @@ pub fn vrp_evidence<'a>(text: &'a [u8], fault: ReadFault) -> Evidence<'a>
         Section::Outside => key_evidence(text, nodes, line, fault.kind),
         Section::CoordinateLine(left) => {
             let fields = [Field::Node, Field::X, Field::Y];
-            let limits = [numbers, COORDINATE, COORDINATE];
+            let coordinate = coordinate_range(scale);
+            let limits = [numbers, coordinate, coordinate];
             node_evidence(fault.kind, line, &fields, &limits, Key::Coordinates, left)
         }
         Section::DemandLine(left) => {

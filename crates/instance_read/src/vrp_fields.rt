@@ -4,14 +4,16 @@ ghost use Rattle.std.specs.Int.RustNames.{unsigned_abs};
 ghost use Rattle.std.specs.Option.{option_and_then};
 ghost use Rattle.text_lines.specs.Numbers.{number_of};
 ghost use Rattle.text_lines.specs.Words.{words_of};
-ghost use Rattle.plan_types.specs.Limits.{IsCapacity, IsCoordinate, IsDemand};
+ghost use Rattle.plan_types.specs.Limits.{IsCapacity, IsDemand};
+ghost use Rattle.instance_read.specs.Drafts.{IsPoint};
 ghost use Rattle.instance_read.specs.Fields.{field, has_no_number, value_at};
 ghost use Rattle.instance_read.specs.Vrp.{capacity_fault, coordinate_limits, demand_limits, depot_fault, dimension_fault, continues_after_end, is_end, is_other, max_nodes, node_fault, opening_fault, spelling_fault};
 ghost use Rattle.instance_read.specs.TaskFaults.{HasNoKind, IsFirstKind, Passes, ReadsValue};
 
 use crate::ReadFaultKind;
-use crate::field_limits::{CAPACITY, COORDINATE, DIMENSION, Limits, MAX_NODES, NODE_DEMAND};
+use crate::field_limits::{CAPACITY, DIMENSION, Limits, MAX_NODES, NODE_DEMAND, coordinate_range};
 use crate::fields::{has_no_number, range_kind, read_numbers};
+use crate::scales::Scale;
 use crate::vrp_lines::is_word;
 use text_lines::{Number, Words};
 
@@ -73,20 +75,25 @@ pub fn open_section(announced: bool, stands: bool) -> Result<(), ReadFaultKind>
     Ok(())
 }
 
-/// Reads a node and its coordinates.
-pub fn read_coordinates(nodes: u32, line: &[u8]) -> Result<(u32, (i32, i32)), ReadFaultKind>
+/// Reads a node and its coordinates, in the unit of the text.
+pub fn read_coordinates(
+    scale: Scale,
+    nodes: u32,
+    line: &[u8],
+) -> Result<(u32, (i32, i32)), ReadFaultKind>
     requires { nodes ≤ max_nodes }
     ensures read { let words = words_of line.now in
-        let fault = node_fault 3 (coordinate_limits nodes) (λ _. false) words in
+        let fault = node_fault 3 (coordinate_limits scale nodes) (λ _. false) words in
         MatchResult result
         (λ r. HasNoKind fault
         × (field words 0 ≡ Some (pos r.0))
         × (r.1 ≡ (value_at words 1, value_at words 2)))
         (IsFirstKind fault) }
     ensures within { IfOk result
-        (λ r. (1 ≤ r.0) × (r.0 ≤ nodes) × IsCoordinate r.1.0 × IsCoordinate r.1.1) }
+        (λ r. (1 ≤ r.0) × (r.0 ≤ nodes) × IsPoint scale r.1) }
 {
-    let [node, x, y] = read_numbers(line, &[node_limits(nodes), COORDINATE, COORDINATE])?;
+    let coordinate = coordinate_range(scale);
+    let [node, x, y] = read_numbers(line, &[node_limits(nodes), coordinate, coordinate])?;
     Ok((node.unsigned_abs(), (x, y)))
 }
 

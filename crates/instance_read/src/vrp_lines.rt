@@ -130,8 +130,8 @@ pub fn split_key(line: &[u8]) -> (&[u8], &[u8])
     }
 }
 
-// Returns the place of the first colon.
-fn colon_place(line: &[u8]) -> Option<usize>
+/// Returns the place of the first colon.
+pub(crate) fn colon_place(line: &[u8]) -> Option<usize>
     ensures bound { IfSome result (λ colon. colon < length line.now) }
     ensures place { let place = position_or_len is_colon line.now in
         MatchOption result (length line.now ≤ place) (λ colon. colon ≡ place) }

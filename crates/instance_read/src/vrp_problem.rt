@@ -1,7 +1,7 @@
 //! The problem that a `.vrp` text spells, from the data of its lines.
 //!
-//! A text without a fault has one line for each node. The definitions look for the first line of a section with
-//! that node.
+//! In a text without a fault, each section has exactly one line for each node. The definitions take the first
+//! line with the node, which is that one.
 ghost use Rattle.std.specs.Prelude.{◌≡◌, ◌<◌, ◌≤◌, ◌+◌, ◌-◌, IfOk, IfErr, OnOk, [], true, is_some, pos};
 ghost use Rattle.plan_types.specs.Instance.{IsInstance, new_instance};
 ghost use Rattle.plan_types.specs.Limits.{IsDemand};
@@ -67,21 +67,23 @@ fn put_customers(problem: &mut Problem, draft: &VrpDraft) -> Result<(), AllocErr
 }
 
 fn customer(draft: &VrpDraft, number: u32) -> Request
+    requires { IsDraft draft.now }
     ensures { result ≡ Single (drafted_stop draft.now (demand_at draft.now number) number) }
 {
     let demand = entry_of(&draft.demands, number).unwrap_or(0);
     Request::Single(node_stop(draft, number, demand))
 }
 
-// Returns node n+1 as stop n.
+// Returns node n+1 as stop n, with coordinates times the scale.
 fn node_stop(draft: &VrpDraft, number: u32, demand: i32) -> Stop
+    requires { IsDraft draft.now }
     ensures { result ≡ drafted_stop draft.now demand number }
 {
     let (x, y) = entry_of(&draft.coordinates, number).unwrap_or((0, 0));
     Stop {
         number,
-        x,
-        y,
+        x: draft.scale.times_signed(x),
+        y: draft.scale.times_signed(y),
         demand,
         earliest: 0,
         // CVRP has no time windows.

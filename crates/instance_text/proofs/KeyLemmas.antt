@@ -10,6 +10,7 @@ use Rattle.text_lines.specs.Words.{IsWord, is_blank, words_of}
 use Rattle.text_lines.proofs.WordLemmas.{words_nil, words_of-front}
 use Rattle.instance_read.specs.declared.faults.ReadFaultKind.{ReadFaultKind}
 use Rattle.instance_read.specs.declared.faults.ReadFaultKind.TheVariants.{BadNumber, Range, FieldCount, TooManyStops, MissingKey, Unsupported, DepotNotFirst, NodeRepeated}
+use Rattle.instance_read.specs.declared.scales.Scale.TheVariants.{One}
 use Rattle.instance_read.specs.declared.vrp_lines.Key as its
 use Rattle.instance_read.specs.declared.vrp_lines.Key.TheVariants as key
 use Rattle.instance_read.specs.declared.vrp_lines.Section.TheVariants.{Outside}
@@ -164,7 +165,7 @@ module _ (at : ℕ) where
 
 -- ---- faults
 pub key_none : (before : List Placed) (row : Row) (k : its.Key) → key_of row ≡ k
-    → HasNoKind (key_fault (any_key key.Dimension before) (any_key k before) (value_of row) k) → HasNoKind (place_fault before row Outside)
+    → HasNoKind (key_fault (any_key key.Dimension before) (any_key k before) (value_of row) k) → HasNoKind (place_fault One before row Outside)
 key_none before row k is none kind = subst (λ x. key_fault (any_key key.Dimension before) (any_key x before) (value_of row) x kind ≡ false) (sym is) (none kind)
 
 pub dimension_none : (stands : Bool) (words : List (List ℕ)) (n : ℕ) → n < 2 ^ 64 → words ≡ map signed_decimal (pos n ∷ []) → stands ≡ false → 2 ≤ n

@@ -16,6 +16,7 @@ use Rattle.plan_types.specs.declared.requests.Stop.{Stop}
 use Rattle.plan_types.proofs.LookupLemmas.{none_some, partner-below, pickup-below}
 use Rattle.instance_read.specs.declared.faults.ReadFaultKind.TheVariants.{BadNumber, Range, FieldCount, TaskOrder, PairMismatch, EmptyWindow, TooManyStops, MissingKey, Unsupported}
 use Rattle.instance_read.specs.declared.faults.ReadFaultKind.TheVariants.{DepotNotFirst, NodeRepeated, Truncated, OutOfMemory}
+use Rattle.instance_read.specs.declared.scales.Scale.TheVariants.{One}
 use Rattle.instance_read.specs.declared.tasks.Task.{Task}
 use Rattle.instance_read.specs.Fields.{exceeds, is_beyond, passes_test, value_at}
 use Rattle.instance_read.specs.Lilim.{SpellsLilim, depot_from, header_fault, header_limits, is_out_of_order, problem_from, problem_of, task_fault, task_limits}
@@ -109,7 +110,7 @@ module _ (p : Instance) (valid : IsInstance p) where
       ),
     )
 
-    fields_within : AreWithin task_limits fields
+    fields_within : AreWithin (task_limits One) fields
     fields_within = (
       not_beyond_zero 40000 s.number said.number,
       (
@@ -143,11 +144,11 @@ module _ (p : Instance) (valid : IsInstance p) where
     stop_words = words_read fields fields_small
 
     module _ (previous : Option Task) (order : is_out_of_order previous (pos s.number) ≡ false) where
-      no_fault_among : HasNoKind (task_fault previous (map signed_decimal fields))
+      no_fault_among : HasNoKind (task_fault One previous (map signed_decimal fields))
       no_fault_among FieldCount = refl
       no_fault_among BadNumber = all_numbers fields fields_small
       no_fault_among TooManyStops = ap (passes_test (λ z. int_lt (pos 40000) z)) (field_read fields 0 fields_small) ∙ not_above 40000 s.number said.number
-      no_fault_among Range = none_beyond task_limits fields fields_small fields_within
+      no_fault_among Range = none_beyond (task_limits One) fields fields_small fields_within
       no_fault_among TaskOrder = ap (passes_test (is_out_of_order previous)) (field_read fields 0 fields_small) ∙ order
       no_fault_among EmptyWindow = ap₂ exceeds (field_read fields 4 fields_small) (field_read fields 5 fields_small) ∙ not_above s.latest s.earliest said.visit.window
       no_fault_among PairMismatch = refl
@@ -158,8 +159,8 @@ module _ (p : Instance) (valid : IsInstance p) where
       no_fault_among Truncated = refl
       no_fault_among OutOfMemory = refl
 
-      no_fault : HasNoKind (task_fault previous (words_of (row_line p row.Task s)))
-      no_fault = subst (λ ws. HasNoKind (task_fault previous ws)) (sym stop_words) no_fault_among
+      no_fault : HasNoKind (task_fault One previous (words_of (row_line p row.Task s)))
+      no_fault = subst (λ ws. HasNoKind (task_fault One previous ws)) (sym stop_words) no_fault_among
 
     task_same : (line : ℕ) (f g : ℕ → ℤ) → ((i : ℕ) → f i ≡ g i) → task_from line f ≡ task_from line g
     task_same line f g h = rw (h 0, h 1, h 2, h 3, h 4, h 5, h 6, h 7, h 8) refl
@@ -219,20 +220,20 @@ module _ (p : Instance) (valid : IsInstance p) where
         shown : (s : Stop) → IsSaid s → IsShown (row_line p row.Task s)
         shown s is = numbers_shown (pos s.number) _ (fields_small s is)
 
-    tasks_clean : (previous : Task) (line m count : ℕ) → previous.stop.number < m → HasNoTaskFault (Some previous) (numbered line (map (row_line p row.Task) (stops_from p m count)))
+    tasks_clean : (previous : Task) (line m count : ℕ) → previous.stop.number < m → HasNoTaskFault One (Some previous) (numbered line (map (row_line p row.Task) (stops_from p m count)))
     tasks_clean previous line m zero less = λ line kind f. f
     tasks_clean previous line m (suc count) less = by (stop_at p m) refl (λ before at. tasks_clean before at (m + 1) count)
       where
         by : (o : Option Stop) → stop_at p m ≡ o
-            → ((before : Task) (at : ℕ) → before.stop.number < m + 1 → HasNoTaskFault (Some before) (numbered at (map (row_line p row.Task) (stops_from p (m + 1) count))))
-            → HasNoTaskFault (Some previous) (numbered line (map (row_line p row.Task) (cons_option o (stops_from p (m + 1) count))))
+            → ((before : Task) (at : ℕ) → before.stop.number < m + 1 → HasNoTaskFault One (Some before) (numbered at (map (row_line p row.Task) (stops_from p (m + 1) count))))
+            → HasNoTaskFault One (Some previous) (numbered line (map (row_line p row.Task) (cons_option o (stops_from p (m + 1) count))))
         by None e others = others previous line (omega (arith, less))
         by (Some s) e others =
             let here = number_at p valid m s e in
             let its = said m s e in
             let order : is_out_of_order (Some previous) (pos s.number) ≡ false = ap not (lt-ltb previous.stop.number s.number (omega (arith, less, here))) in
             let after : (task_of (record { line = line; text = row_line p row.Task s })).stop.number < m + 1 = omega (arith, here, ap (λ (t : Task). t.stop.number) (task_read s its line)) in
-            step_none (Some previous) (record { line = line; text = row_line p row.Task s }) _ (no_fault s its (Some previous) order) (others _ (line + 1) after)
+            step_none One (Some previous) (record { line = line; text = row_line p row.Task s }) _ (no_fault s its (Some previous) order) (others _ (line + 1) after)
 
     -- ---- the header and the depot
     abbrev head : List ℤ
@@ -291,10 +292,10 @@ module _ (p : Instance) (valid : IsInstance p) where
     depot_first : is_out_of_order None (pos p.depot.number) ≡ false
     depot_first = rw valid.depot.number refl
 
-    clean : HasNoTaskFault None (depot_row ∷ stop_rows)
+    clean : HasNoTaskFault One None (depot_row ∷ stop_rows)
     clean =
         let after : (task_of depot_row).stop.number < 1 = omega (arith, valid.depot.number, ap (λ (t : Task). t.stop.number) (task_read p.depot depot_said 2)) in
-        step_none None depot_row stop_rows (no_fault p.depot depot_said None depot_first) (tasks_clean (task_of depot_row) 3 1 (p.next_number - 1) after)
+        step_none One None depot_row stop_rows (no_fault p.depot depot_said None depot_first) (tasks_clean (task_of depot_row) 3 1 (p.next_number - 1) after)
 
     tasks_are : map task_of stop_rows ≡ all_tasks p valid 3
     tasks_are = tasks_read 3 stops_after_depot (all_said 1 (p.next_number - 1))
@@ -318,16 +319,16 @@ module _ (p : Instance) (valid : IsInstance p) where
         ap (λ d. with_parts d (pairs_of (all_tasks p valid 3)) (last_number (task p 2 p.depot) (all_tasks p valid 3) + 1)) (depot_same p.depot valid.depot)
         ∙ ap₂ (λ rs n. with_parts p.depot rs (n + 1)) (pairs_are p valid 3 pairs) (last_is 2 3 p.depot stops_after_depot)
 
-    problem_is : problem_of header_row depot_row stop_rows ≡ with_parts p.depot p.requests (last_of p.depot stops_after_depot + 1)
+    problem_is : problem_of One header_row depot_row stop_rows ≡ with_parts p.depot p.requests (last_of p.depot stops_after_depot + 1)
     problem_is =
         ap (λ ws. problem_from (unsigned_abs (value_at ws 0)) (unsigned_abs (value_at ws 1)) (task_of depot_row) (map task_of stop_rows)) head_words
         ∙ ap₂ (λ f c. problem_from (unsigned_abs f) (unsigned_abs c) (task_of depot_row) (map task_of stop_rows)) (value_read head 0 head_small) (value_read head 1 head_small)
         ∙ ap₂ (λ d ts. problem_from p.fleet p.capacity d ts) (task_read p.depot depot_said 2) tasks_are
         ∙ from_parts
 
-    spelled : SpellsLilim text (with_parts p.depot p.requests (last_of p.depot stops_after_depot + 1))
+    spelled : SpellsLilim One text (with_parts p.depot p.requests (last_of p.depot stops_after_depot + 1))
     spelled = (
-      has_none text header_row depot_row stop_rows rows_are sound clean (subst ArePaired (sym tasks_are) (paired p valid 3 pairs)),
+      has_none One text header_row depot_row stop_rows rows_are sound clean (subst ArePaired (sym tasks_are) (paired p valid 3 pairs)),
       header_row,
       depot_row,
       stop_rows,
@@ -335,7 +336,7 @@ module _ (p : Instance) (valid : IsInstance p) where
       sym problem_is,
     )
 
-pub lilim_read_back : (p : Instance) → IsInstance p → p.kind ≡ LiLim → are_pairs p.requests ≡ true → SpellsLilim (lines_text (lilim_lines p)) (read_by LiLim p)
+pub lilim_read_back : (p : Instance) → IsInstance p → p.kind ≡ LiLim → are_pairs p.requests ≡ true → SpellsLilim One (lines_text (lilim_lines p)) (read_by LiLim p)
 lilim_read_back p valid kind said =
     let whole : Kind → Instance = λ k. record { kind = k; depot = p.depot; capacity = p.capacity; fleet = p.fleet; requests = p.requests; next_number = last_stop p + 1 } in
-    subst (λ k. SpellsLilim (lines_text (lilim_lines p)) (whole k)) (sym kind) (spelled p valid said)
+    subst (λ k. SpellsLilim One (lines_text (lilim_lines p)) (whole k)) (sym kind) (spelled p valid said)

@@ -1,6 +1,7 @@
 -- Consecutive lines of a `.vrp` text: the sections that they are in, and that none has a fault.
 use Rattle.std.proofs.Common.{◌≡◌, ℕ, suc, ◌-◌, cond, List, [], ◌∷◌, ◌++◌, length, Option, Some, None, refl, sym, ap, subst, ◌∙◌, arith, append_assoc, append-nil}
 use Rattle.std.proofs.lemmas.Bool.{ne_eqb}
+use Rattle.instance_read.specs.declared.scales.Scale.TheVariants.{One}
 use Rattle.instance_read.specs.declared.vrp_lines.Key.{Key}
 use Rattle.instance_read.specs.declared.vrp_lines.Section.{Section}
 use Rattle.instance_read.specs.declared.vrp_lines.Section.TheVariants.{Outside}
@@ -16,12 +17,12 @@ use Rattle.instance_read.proofs.ReadingLemmas.{clean_more, placed_step}
 -- none of these lines has a fault, after the lines before
 abbrev pub CleanFrom : List Placed → List Placed → Type 0
 CleanFrom before [] = Unit {0}
-CleanFrom before (p ∷ ps) = HasNoKind (place_fault before p.row p.place) × CleanFrom (before ++ p ∷ []) ps
+CleanFrom before (p ∷ ps) = HasNoKind (place_fault One before p.row p.place) × CleanFrom (before ++ p ∷ []) ps
 
-pub clean_all : (before ps : List Placed) → HasNoLineFault before → CleanFrom before ps → HasNoLineFault (before ++ ps)
-clean_all before [] clean from = subst HasNoLineFault (sym (append-nil before)) clean
+pub clean_all : (before ps : List Placed) → HasNoLineFault One before → CleanFrom before ps → HasNoLineFault One (before ++ ps)
+clean_all before [] clean from = subst (HasNoLineFault One) (sym (append-nil before)) clean
 clean_all before (p ∷ ps) clean from =
-    subst HasNoLineFault (append_assoc before (p ∷ []) ps) (clean_all (before ++ p ∷ []) ps (clean_more before p clean from.0) from.1)
+    subst (HasNoLineFault One) (append_assoc before (p ∷ []) ps) (clean_all (before ++ p ∷ []) ps (clean_more One before p clean from.0) from.1)
 
 pub clean_join : (before xs ys : List Placed) → CleanFrom before xs → CleanFrom (before ++ xs) ys → CleanFrom before (xs ++ ys)
 clean_join before [] ys a b = subst (λ l. CleanFrom l ys) (append-nil before) b

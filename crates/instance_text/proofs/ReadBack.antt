@@ -5,6 +5,7 @@ use Rattle.plan_types.specs.declared.requests.Kind.{Kind}
 use Rattle.plan_types.specs.declared.requests.Kind.TheVariants.{LiLim, Vrp}
 use Rattle.instance_read.specs.Readings.{SpellsLayout}
 use Rattle.instance_read.specs.declared.formats.Layout.{Layout}
+use Rattle.instance_read.specs.declared.scales.Scale.TheVariants.{One}
 use Rattle.instance_read.specs.declared.formats.Layout.TheVariants as layouts
 use Rattle.instance_text.specs.Formats.{are_pairs, are_singles, is_expressible, layout_for}
 use Rattle.instance_text.specs.ReadBack.{TextsAreReadBack, read_by}
@@ -17,7 +18,7 @@ pub texts_are_read_back : TextsAreReadBack
 texts_are_read_back p valid said = by p.kind refl
   where
     Reads : Layout → Kind → Type 0
-    Reads l k = SpellsLayout l (lines_text (lines_by l p)) (read_by k p)
+    Reads l k = SpellsLayout l One (lines_text (lines_by l p)) (read_by k p)
 
     Said : Kind → Type 0
     Said k = Reads (layout_for k p) k

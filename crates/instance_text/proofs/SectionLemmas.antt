@@ -13,6 +13,7 @@ use Rattle.text_lines.specs.Words.{words_of}
 use Rattle.plan_types.specs.declared.requests.Stop.{Stop}
 use Rattle.instance_read.specs.declared.faults.ReadFaultKind.{ReadFaultKind}
 use Rattle.instance_read.specs.declared.faults.ReadFaultKind.TheVariants.{BadNumber, Range, FieldCount, NodeRepeated}
+use Rattle.instance_read.specs.declared.scales.Scale.TheVariants.{One}
 use Rattle.instance_read.specs.declared.vrp_lines.Key.{Key}
 use Rattle.instance_read.specs.declared.vrp_lines.Section.{Section}
 use Rattle.instance_read.specs.Fields.{field, passes_test, value_at}
@@ -135,7 +136,7 @@ module _ (line : ℕ → Section) (section : Section → Bool) (values : Stop �
   -- ---- no line has a fault
   module _ (count : ℕ) (limits : ℕ → List (ℤ × ℤ)) (nodes : ℕ)
       (fault_is : (before : List Placed) (row : Row) (k : ℕ) (kind : ReadFaultKind)
-      → place_fault before row (line k) kind ≡ node_fault count (limits (nodes_of before)) (has_node section before) (words_of row.text) kind) where
+      → place_fault One before row (line k) kind ≡ node_fault count (limits (nodes_of before)) (has_node section before) (words_of row.text) kind) where
     pub record IsSound (s : Stop) : Type 0 where
       pub is_line : IsLine s
       pub counted : eqb (length (map signed_decimal (values s))) count ≡ true
@@ -149,7 +150,7 @@ module _ (line : ℕ → Section) (section : Section → Bool) (values : Stop �
     fault_among taken s is free _ = refl
 
     no_fault : (before : List Placed) (s : Stop) (at k : ℕ) → IsSound s → nodes_of before ≡ nodes
-        → has_node section before (pos (s.number + 1)) ≡ false → HasNoKind (place_fault before (record { line = at; text = line_text s }) (line k))
+        → has_node section before (pos (s.number + 1)) ≡ false → HasNoKind (place_fault One before (record { line = at; text = line_text s }) (line k))
     no_fault before s at k is announced free kind =
         fault_is before (record { line = at; text = line_text s }) k kind
         ∙ ap (λ n. node_fault count (limits n) (has_node section before) (words_of (line_text s)) kind) announced

@@ -23,6 +23,7 @@ use Rattle.plan_types.specs.declared.requests.Stop.{Stop}
 use Rattle.plan_types.proofs.LookupLemmas.{below-each, first_some-holds, none_some}
 use Rattle.instance_read.specs.declared.faults.ReadFaultKind.TheVariants.{BadNumber, Range, FieldCount, TaskOrder, PairMismatch, EmptyWindow, TooManyStops, MissingKey, Unsupported}
 use Rattle.instance_read.specs.declared.faults.ReadFaultKind.TheVariants.{DepotNotFirst, NodeRepeated, Truncated, OutOfMemory}
+use Rattle.instance_read.specs.declared.scales.Scale.TheVariants.{One}
 use Rattle.instance_read.specs.declared.tasks.Task.{Task}
 use Rattle.instance_read.specs.Faults.{HasNoFault}
 use Rattle.instance_read.specs.Fields.{exceeds, is_beyond, passes_test, value_at}
@@ -81,7 +82,7 @@ module _ (s : Stop) (said : IsSaid s) where
     ),
   )
 
-  fields_within : AreWithin customer_limits fields
+  fields_within : AreWithin (customer_limits One) fields
   fields_within = (
     not_beyond_zero 40000 s.number said.number,
     (
@@ -103,11 +104,11 @@ module _ (s : Stop) (said : IsSaid s) where
   stop_words = words_read fields fields_small
 
   module _ (previous : Option Task) (order : is_out_of_order previous (pos s.number) ≡ false) where
-    no_fault_among : HasNoKind (customer_fault previous (map signed_decimal fields))
+    no_fault_among : HasNoKind (customer_fault One previous (map signed_decimal fields))
     no_fault_among FieldCount = refl
     no_fault_among BadNumber = all_numbers fields fields_small
     no_fault_among TooManyStops = ap (passes_test (λ z. int_lt (pos 40000) z)) (field_read fields 0 fields_small) ∙ not_above 40000 s.number said.number
-    no_fault_among Range = none_beyond customer_limits fields fields_small fields_within
+    no_fault_among Range = none_beyond (customer_limits One) fields fields_small fields_within
     no_fault_among TaskOrder = ap (passes_test (is_out_of_order previous)) (field_read fields 0 fields_small) ∙ order
     no_fault_among EmptyWindow = ap₂ exceeds (field_read fields 4 fields_small) (field_read fields 5 fields_small) ∙ not_above s.latest s.earliest said.visit.window
     no_fault_among PairMismatch = refl
@@ -118,8 +119,8 @@ module _ (s : Stop) (said : IsSaid s) where
     no_fault_among Truncated = refl
     no_fault_among OutOfMemory = refl
 
-    no_fault : HasNoKind (customer_fault previous (words_of (customer_line s)))
-    no_fault = subst (λ ws. HasNoKind (customer_fault previous ws)) (sym stop_words) no_fault_among
+    no_fault : HasNoKind (customer_fault One previous (words_of (customer_line s)))
+    no_fault = subst (λ ws. HasNoKind (customer_fault One previous ws)) (sym stop_words) no_fault_among
 
   customer_same : (line : ℕ) (f g : ℕ → ℤ) → ((i : ℕ) → f i ≡ g i) → task_from line f ≡ task_from line g
   customer_same line f g h = rw (h 0, h 1, h 2, h 3, h 4, h 5, h 6, h 7, h 8) refl
@@ -251,20 +252,20 @@ module _ (p : Instance) (valid : IsInstance p) (singles : list_all (λ e. is_sin
   lines_shown (s ∷ ss) all = (numbers_shown (pos s.number) _ (fields_small s all.0), lines_shown ss all.1)
 
   customers_clean : (previous : Task) (line m count : ℕ) → previous.stop.number < m
-      → HasNoStopFault customer_limits (Some previous) (numbered line (map (row_line p row.Customer) (stops_from p m count)))
+      → HasNoStopFault (customer_limits One) (Some previous) (numbered line (map (row_line p row.Customer) (stops_from p m count)))
   customers_clean previous line m zero less = λ line kind f. f
   customers_clean previous line m (suc count) less = by (stop_at p m) refl (λ before at. customers_clean before at (m + 1) count)
     where
       by : (o : Option Stop) → stop_at p m ≡ o
-          → ((before : Task) (at : ℕ) → before.stop.number < m + 1 → HasNoStopFault customer_limits (Some before) (numbered at (map (row_line p row.Customer) (stops_from p (m + 1) count))))
-          → HasNoStopFault customer_limits (Some previous) (numbered line (map (row_line p row.Customer) (cons_option o (stops_from p (m + 1) count))))
+          → ((before : Task) (at : ℕ) → before.stop.number < m + 1 → HasNoStopFault (customer_limits One) (Some before) (numbered at (map (row_line p row.Customer) (stops_from p (m + 1) count))))
+          → HasNoStopFault (customer_limits One) (Some previous) (numbered line (map (row_line p row.Customer) (cons_option o (stops_from p (m + 1) count))))
       by None e others = others previous line (omega (arith, less))
       by (Some s) e others =
           let here = number_at p valid m s e in
           let its = said m s e in
           let order : is_out_of_order (Some previous) (pos s.number) ≡ false = ap not (lt-ltb previous.stop.number s.number (omega (arith, less, here))) in
           let after : (task_of (record { line = line; text = customer_line s })).stop.number < m + 1 = omega (arith, here, ap (λ (t : Task). t.stop.number) (customer_read s its line)) in
-          step_clean customer_limits (Some previous) (record { line = line; text = customer_line s }) _ (no_fault s its (Some previous) order) (others _ (line + 1) after)
+          step_clean (customer_limits One) (Some previous) (record { line = line; text = customer_line s }) _ (no_fault s its (Some previous) order) (others _ (line + 1) after)
 
   customers_read : (line : ℕ) (ss : List Stop) → AllByRecursion IsSaid ss → map single_of (map task_of (numbered line (map (row_line p row.Customer) ss))) ≡ map entry_of ss
   customers_read line [] all = refl
@@ -371,10 +372,10 @@ module _ (p : Instance) (valid : IsInstance p) (singles : list_all (λ e. is_sin
   depot_first : is_out_of_order None (pos p.depot.number) ≡ false
   depot_first = rw valid.depot.number refl
 
-  stops_clean : HasNoStopFault customer_limits None (depot_row ∷ customer_rows)
+  stops_clean : HasNoStopFault (customer_limits One) None (depot_row ∷ customer_rows)
   stops_clean =
       let after : (task_of depot_row).stop.number < 1 = omega (arith, valid.depot.number, ap (λ (t : Task). t.stop.number) (customer_read p.depot depot_said 10)) in
-      step_clean customer_limits None depot_row customer_rows (no_fault p.depot depot_said None depot_first) (customers_clean (task_of depot_row) 11 1 (p.next_number - 1) after)
+      step_clean (customer_limits One) None depot_row customer_rows (no_fault p.depot depot_said None depot_first) (customers_clean (task_of depot_row) 11 1 (p.next_number - 1) after)
 
   name_none : (words : List (List ℕ)) → HasNoKind (name_fault words)
   name_none words kind = refl
@@ -391,19 +392,19 @@ module _ (p : Instance) (valid : IsInstance p) (singles : list_all (λ e. is_sin
   abbrev rows_after_name : List Row
   rows_after_name = head_row 3 heading.Vehicles ∷ rows_after_vehicles
 
-  clean : HasNoFault (LinesFault end due_lines all_rows)
+  clean : HasNoFault (LinesFault One end due_lines all_rows)
   clean =
-      due_clean end name_fault (drop 1 due_lines) (head_row 1 heading.Title) rows_after_name (name_none (words_of (heading_text heading.Title)))
-      (due_clean end (word_fault (codes "VEHICLE")) (drop 2 due_lines) (head_row 3 heading.Vehicles) rows_after_vehicles
+      due_clean One end name_fault (drop 1 due_lines) (head_row 1 heading.Title) rows_after_name (name_none (words_of (heading_text heading.Title)))
+      (due_clean One end (word_fault (codes "VEHICLE")) (drop 2 due_lines) (head_row 3 heading.Vehicles) rows_after_vehicles
       (word_none (codes "VEHICLE") (heading_text heading.Vehicles) vehicle_begins)
-      (due_clean end (word_fault (codes "NUMBER")) (drop 3 due_lines) (head_row 4 heading.Amounts) rows_after_amounts
+      (due_clean One end (word_fault (codes "NUMBER")) (drop 3 due_lines) (head_row 4 heading.Amounts) rows_after_amounts
       (word_none (codes "NUMBER") (heading_text heading.Amounts) number_begins)
-      (due_clean end fleet_fault (drop 4 due_lines) (row_at 5 (fleet_line p)) rows_after_fleet fleet_none
-      (due_clean end (word_fault (codes "CUSTOMER")) (drop 5 due_lines) (head_row 7 heading.Customers) (head_row 8 heading.Columns ∷ depot_row ∷ customer_rows)
+      (due_clean One end fleet_fault (drop 4 due_lines) (row_at 5 (fleet_line p)) rows_after_fleet fleet_none
+      (due_clean One end (word_fault (codes "CUSTOMER")) (drop 5 due_lines) (head_row 7 heading.Customers) (head_row 8 heading.Columns ∷ depot_row ∷ customer_rows)
       (word_none (codes "CUSTOMER") (heading_text heading.Customers) customer_begins)
-      (due_clean end (word_fault (codes "CUST")) [] (head_row 8 heading.Columns) (depot_row ∷ customer_rows)
+      (due_clean One end (word_fault (codes "CUST")) [] (head_row 8 heading.Columns) (depot_row ∷ customer_rows)
       (word_none (codes "CUST") (heading_text heading.Columns) columns_begin)
-      (clean_lines end depot_row customer_rows stops_clean))))))
+      (clean_lines One end depot_row customer_rows stops_clean))))))
 
   -- ---- the problem
   depot_same : (s : Stop) → IsDepot s → depot_from (customer 10 s) ≡ s
@@ -423,20 +424,20 @@ module _ (p : Instance) (valid : IsInstance p) (singles : list_all (λ e. is_sin
       ∙ ap₂ (λ rs n. with_parts p.depot rs (n + 1)) (customers_read 11 stops all ∙ requests_are)
       (last_is 10 11 (task_of depot_row) p.depot stops (ap (λ (t : Task). t.stop.number) (customer_read p.depot depot_said 10)) all)
 
-  problem_is : IsProblemOf all_rows (with_parts p.depot p.requests (last_of p.depot stops + 1))
+  problem_is : IsProblemOf One all_rows (with_parts p.depot p.requests (last_of p.depot stops + 1))
   problem_is =
       sym (ap (λ ws. singles_problem (unsigned_abs (value_at ws 0)) (unsigned_abs (value_at ws 1)) (task_of depot_row) (map task_of customer_rows)) fleet_words
       ∙ ap₂ (λ f c. singles_problem (unsigned_abs f) (unsigned_abs c) (task_of depot_row) (map task_of customer_rows)) (value_read amounts 0 amounts_small) (value_read amounts 1 amounts_small)
       ∙ parts_are)
 
-  spelled : SpellsSolomon text (with_parts p.depot p.requests (last_of p.depot stops + 1))
+  spelled : SpellsSolomon One text (with_parts p.depot p.requests (last_of p.depot stops + 1))
   spelled =
-      let P : List Row → Type 0 = λ rows. HasNoFault (LinesFault end due_lines rows) in
-      let Q : List Row → Type 0 = λ rows. IsProblemOf rows (with_parts p.depot p.requests (last_of p.depot stops + 1)) in
+      let P : List Row → Type 0 = λ rows. HasNoFault (LinesFault One end due_lines rows) in
+      let Q : List Row → Type 0 = λ rows. IsProblemOf One rows (with_parts p.depot p.requests (last_of p.depot stops + 1)) in
       (subst P (sym rows_are) clean, subst Q (sym rows_are) problem_is)
 
-pub solomon_read_back : (p : Instance) → IsInstance p → p.kind ≡ LiLim → are_singles p.requests ≡ true → SpellsSolomon (lines_text (solomon_lines p)) (read_by LiLim p)
+pub solomon_read_back : (p : Instance) → IsInstance p → p.kind ≡ LiLim → are_singles p.requests ≡ true → SpellsSolomon One (lines_text (solomon_lines p)) (read_by LiLim p)
 solomon_read_back p valid kind said =
     let whole : Kind → Instance = λ k. record { kind = k; depot = p.depot; capacity = p.capacity; fleet = p.fleet; requests = p.requests; next_number = last_stop p + 1 } in
     let singles = (and_parts (nat_lt 0 (length p.requests)) (list_all (λ e. is_single e.1) p.requests) said).1 in
-    subst (λ k. SpellsSolomon (lines_text (solomon_lines p)) (whole k)) (sym kind) (spelled p valid singles)
+    subst (λ k. SpellsSolomon One (lines_text (solomon_lines p)) (whole k)) (sym kind) (spelled p valid singles)

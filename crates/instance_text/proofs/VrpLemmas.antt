@@ -17,6 +17,7 @@ use Rattle.plan_types.specs.declared.requests.Kind.TheVariants.{Vrp}
 use Rattle.plan_types.specs.declared.requests.Request.{Request}
 use Rattle.plan_types.specs.declared.requests.Request.TheVariants.{Single}
 use Rattle.plan_types.specs.declared.requests.Stop.{Stop}
+use Rattle.instance_read.specs.declared.scales.Scale.TheVariants.{One}
 use Rattle.instance_read.specs.declared.vrp_lines.Key as key_type
 use Rattle.instance_read.specs.declared.vrp_lines.Key.TheVariants as key
 use Rattle.instance_read.specs.declared.vrp_lines.Section.{Section}
@@ -61,7 +62,7 @@ all-append : (P : List ℕ → Type 0) (xs ys : List (List ℕ)) → AllByRecurs
 all-append P [] ys a b = b
 all-append P (x ∷ xs) ys a b = (a.0, all-append P xs ys a.1 b)
 
-no_lines : HasNoLineFault []
+no_lines : HasNoLineFault One []
 no_lines b p a e = absurd (empty_split b e)
   where
     empty_split : (b : List Placed) → [] ≡ b ++ p ∷ a → ⊥
@@ -169,7 +170,7 @@ module _ (p : Instance) (valid : IsInstance p) (some : 0 < length p.requests) (d
     first = refl;
   }
 
-  points_sound : (s : Stop) → IsFit nodes s → IsSound coordinate in_coordinates points (λ k. refl) (λ k. refl) 3 coordinate_limits nodes (λ before row k kind. refl) s
+  points_sound : (s : Stop) → IsFit nodes s → IsSound coordinate in_coordinates points (λ k. refl) (λ k. refl) 3 (coordinate_limits One) nodes (λ before row k kind. refl) s
   points_sound s is = record {
     is_line = points_line s is;
     counted = refl;
@@ -439,12 +440,12 @@ module _ (p : Instance) (valid : IsInstance p) (some : 0 < length p.requests) (d
         end_clean,
   )
 
-  clean : HasNoLineFault ps
+  clean : HasNoLineFault One ps
   clean =
       clean_all [] ps no_lines
       (clean_join [] head_part (coordinate_part ++ (demands_placed ∷ (demand_part ++ end_part))) (head_clean nodes p.capacity front nodes_low nodes_high valid.capacity)
       (clean_join head_part coordinate_part (demands_placed ∷ (demand_part ++ end_part))
-      (section_clean coordinate in_coordinates points (λ k. refl) (λ k. refl) 3 coordinate_limits nodes (λ before row k kind. refl) 0 7 head_part ss are
+      (section_clean coordinate in_coordinates points (λ k. refl) (λ k. refl) 3 (coordinate_limits One) nodes (λ before row k kind. refl) 0 7 head_part ss are
       (all_so _ points_sound ss fit) nodes_said (λ j some. refl))
       demands_clean))
 
@@ -491,7 +492,7 @@ module _ (p : Instance) (valid : IsInstance p) (some : 0 < length p.requests) (d
         (find_skip (is_node_line in_demands (pos (s.number + 1))) coordinate_part (demands_placed ∷ (demand_part ++ end_part)) (no_demand_node (pos (s.number + 1))))
         ∙ value_found demanded in_demands goods (λ k. refl) (λ k. refl) 1 (at_demands + 1) s.number s ss end_part (all_so _ goods_line ss fit) found
 
-    stop_is : (n : ℕ) (d : ℤ) → n ≡ s.number → d ≡ s.demand → node_stop ps d n ≡ s
+    stop_is : (n : ℕ) (d : ℤ) → n ≡ s.number → d ≡ s.demand → node_stop One ps d n ≡ s
     stop_is n d at asked =
         let opens = three (eqb s.earliest 0) (eqb s.latest 100000000) (eqb s.service 0) is.is_open in
         stop_same s n (node_value in_coordinates ps (n + 1) 1) (node_value in_coordinates ps (n + 1) 2) d 0 100000000 0 at
@@ -499,7 +500,7 @@ module _ (p : Instance) (valid : IsInstance p) (some : 0 < length p.requests) (d
         (sym (eqb-true s.earliest 0 opens.0)) (sym (eqb-true s.latest 100000000 opens.1)) (sym (eqb-true s.service 0 opens.2))
 
   abbrev made : ℕ → Stop
-  made n = node_stop ps (node_value in_demands ps (n + 1) 1) n
+  made n = node_stop One ps (node_value in_demands ps (n + 1) 1) n
 
   made_all : (xs : List Stop) → AllByRecursion (IsFit nodes) xs → AllByRecursion (λ s. find_stop s.number ss ≡ Some s) xs → AllByRecursion (λ s. made s.number ≡ s) xs
   made_all [] fits found = tt
@@ -508,7 +509,7 @@ module _ (p : Instance) (valid : IsInstance p) (some : 0 < length p.requests) (d
   requests_are : map (λ n. (n, Single (made n))) (range_with_len 1 (length p.requests)) ≡ p.requests
   requests_are = customers_made made 1 p.requests customers valid.named (made_all (stops_among p.requests) fit.1 (stops_found 0 ss are).1)
 
-  depot_is : node_stop ps (pos 0) 0 ≡ p.depot
+  depot_is : node_stop One ps (pos 0) 0 ≡ p.depot
   depot_is = stop_is p.depot fit.0 (stops_found 0 ss are).0 0 (pos 0) (sym valid.depot.number) (sym valid.depot.demand)
 
   abbrev capacity_in : List Placed → ℕ
@@ -517,22 +518,22 @@ module _ (p : Instance) (valid : IsInstance p) (some : 0 < length p.requests) (d
   abbrev pub problem_with : Stop → ℕ → ℕ → List (ℕ × Request) → ℕ → Instance
   problem_with depot most fleet requests next = record { kind = Vrp; depot = depot; capacity = most; fleet = fleet; requests = requests; next_number = next }
 
-  problem_is : vrp_problem ps ≡ problem_with p.depot p.capacity (length p.requests) p.requests nodes
+  problem_is : vrp_problem One ps ≡ problem_with p.depot p.capacity (length p.requests) p.requests nodes
   problem_is =
       let fewer : nodes - 1 ≡ length p.requests = omega arith in
-      ap (λ n. problem_with (node_stop ps (pos 0) 0) (capacity_in ps) (n - 1) (map (λ n. (n, Single (made n))) (range_with_len 1 (n - 1))) n) (nodes_said lines_after_head)
-      ∙ ap (λ n. problem_with (node_stop ps (pos 0) 0) (capacity_in ps) n (map (λ n. (n, Single (made n))) (range_with_len 1 n)) nodes) fewer
-      ∙ ap (λ rs. problem_with (node_stop ps (pos 0) 0) (capacity_in ps) (length p.requests) rs nodes) requests_are
+      ap (λ n. problem_with (node_stop One ps (pos 0) 0) (capacity_in ps) (n - 1) (map (λ n. (n, Single (made n))) (range_with_len 1 (n - 1))) n) (nodes_said lines_after_head)
+      ∙ ap (λ n. problem_with (node_stop One ps (pos 0) 0) (capacity_in ps) n (map (λ n. (n, Single (made n))) (range_with_len 1 n)) nodes) fewer
+      ∙ ap (λ rs. problem_with (node_stop One ps (pos 0) 0) (capacity_in ps) (length p.requests) rs nodes) requests_are
       ∙ ap₂ (λ d c. problem_with d c (length p.requests) p.requests nodes) depot_is (head_capacity nodes p.capacity front lines_after_head)
 
-  pub spelled : SpellsVrp (lines_text (vrp_lines p)) (problem_with p.depot p.capacity (length p.requests) p.requests nodes)
+  pub spelled : SpellsVrp One (lines_text (vrp_lines p)) (problem_with p.depot p.capacity (length p.requests) p.requests nodes)
   spelled = (
-    has_no_fault text (subst HasNoLineFault (sym placed_are) clean) end_is (ap lacks_key placed_are ∙ complete),
-    sym (ap vrp_problem placed_are ∙ problem_is),
+    has_no_fault One text (subst (HasNoLineFault One) (sym placed_are) clean) end_is (ap lacks_key placed_are ∙ complete),
+    sym (ap (vrp_problem One) placed_are ∙ problem_is),
   )
 
-pub vrp_read_back : (p : Instance) → IsInstance p → p.kind ≡ Vrp → is_expressible Vrp p ≡ true → SpellsVrp (lines_text (vrp_lines p)) (read_by Vrp p)
+pub vrp_read_back : (p : Instance) → IsInstance p → p.kind ≡ Vrp → is_expressible Vrp p ≡ true → SpellsVrp One (lines_text (vrp_lines p)) (read_by Vrp p)
 vrp_read_back p valid kind said =
     let parts = three (nat_lt 0 (length p.requests)) (is_open p.depot) (are_customers 1 p.requests) said in
     let whole : Kind → Instance = λ k. record { kind = k; depot = p.depot; capacity = p.capacity; fleet = length p.requests; requests = p.requests; next_number = length p.requests + 1 } in
-    subst (λ k. SpellsVrp (lines_text (vrp_lines p)) (whole k)) (sym kind) (spelled p valid (ltb-true 0 (length p.requests) parts.0) parts.1 parts.2)
+    subst (λ k. SpellsVrp One (lines_text (vrp_lines p)) (whole k)) (sym kind) (spelled p valid (ltb-true 0 (length p.requests) parts.0) parts.1 parts.2)

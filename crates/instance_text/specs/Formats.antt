@@ -11,6 +11,7 @@ use Rattle.plan_types.specs.declared.requests.Stop.{Stop}
 use Rattle.instance_read.specs.declared.formats.Format.{Format}
 use Rattle.instance_read.specs.declared.formats.Layout.{Layout}
 use Rattle.instance_read.specs.declared.formats.Layout.TheVariants as layouts
+use Rattle.instance_read.specs.declared.scales.Scale.TheVariants.{One}
 
 abbrev pub is_pair : Request → Bool
 is_pair (Single s) = false
@@ -47,9 +48,9 @@ abbrev pub layout_for : Kind → Instance → Layout
 layout_for LiLim p = if are_singles p.requests then layouts.Solomon else layouts.LiLim
 layout_for Vrp p = layouts.Vrp
 
--- the format of the problem's text
+-- the format of the problem's text, with scale 1: the text has the numbers of the problem
 abbrev pub text_format : Instance → Format
-text_format p = record { layout = layout_for p.kind p }
+text_format p = record { layout = layout_for p.kind p; scale = One }
 
 -- in Solomon's format each request is a single, and in Li and Lim's each is a pair; in CVRPLIB's format there is
 -- at least one request, each is a customer, numbered from 1, and the depot is open at all times too

@@ -88,7 +88,7 @@ heading_text Columns = codes "CUST NO. XCOORD. YCOORD. DEMAND READY TIME DUE DAT
 abbrev pub fleet_line : Instance → List ℕ
 fleet_line p = numbers_text (pos p.fleet ∷ pos p.capacity ∷ [])
 
--- the lines before the depot, with blank lines where the published files have them
+-- the lines before the depot, with the blank lines of the published files
 abbrev pub vehicle_lines : Instance → List (List ℕ)
 vehicle_lines p = heading_text Title ∷ heading_text Blank ∷ heading_text Vehicles ∷ heading_text Amounts ∷ fleet_line p ∷ []
 

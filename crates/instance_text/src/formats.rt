@@ -6,14 +6,15 @@ ghost use Rattle.plan_types.specs.Instance.{IsInstance};
 ghost use Rattle.plan_types.specs.declared.requests.Kind.TheVariants.{LiLim};
 ghost use Rattle.instance_text.specs.Formats.{are_customers, are_pairs, are_singles, has_format, layout_for, is_customer, is_open, is_pair, is_single, text_format};
 
-use instance_read::{Format, Layout};
+use instance_read::{Format, Layout, Scale};
 use plan_types::limits::MAX_TIME;
 use plan_types::{Kind, Problem, Request, Stop};
 
 /// Returns the format of a problem's text. Does not allocate.
 ///
 /// A problem of kind `LiLim` is written in Solomon's format if it has requests and each has one stop, otherwise
-/// in Li and Lim's format. One of kind `Vrp` is written as a `.vrp` file of CVRPLIB.
+/// in Li and Lim's format. One of kind `Vrp` is written as a `.vrp` file of CVRPLIB. The scale is 1, since the
+/// text has the numbers of the problem.
 pub fn text_format(problem: &Problem) -> Format
     ensures { result ≡ text_format problem.now }
 {
@@ -21,7 +22,10 @@ pub fn text_format(problem: &Problem) -> Format
         Kind::LiLim => windows_layout(problem),
         Kind::Vrp => Layout::Vrp,
     };
-    Format { layout }
+    Format {
+        layout,
+        scale: Scale::One,
+    }
 }
 
 // Returns the layout of the text of a problem with time windows.
@@ -100,7 +104,7 @@ fn is_single_at(problem: &Problem, index: usize) -> bool
     }
 }
 
-// Returns whether the request at each index is the customer whose number is one greater.
+// Returns whether the requests are customers with the numbers 1, 2, 3 and so on.
 fn are_customers(problem: &Problem) -> bool
     ensures { result ≡ are_customers 1 problem.now.requests }
 {

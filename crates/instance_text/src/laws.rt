@@ -1,4 +1,4 @@
-//! The law that a text that is written reads back.
+//! The law that a written text reads back as the problem.
 ghost use Rattle.instance_text.specs.ReadBack.{TextsAreReadBack};
 
 /// States that the text of a problem spells the problem in the format for its kind. The next number of the

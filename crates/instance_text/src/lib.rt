@@ -4,10 +4,10 @@
 //! The entry point is `write_instance`. It writes the problem as it is now, after requests were added and
 //! withdrawn. `instance_read` reads the text back.
 //!
-//! Sources: as for `instance_read`. A text with time windows has the stops under their own numbers, so gaps
-//! between the numbers stay. A problem of pairs is a Li-Lim text, one of single stops a text in Solomon's format,
-//! and one that has both is refused. A `.vrp` text cannot express time windows, services and gaps, so a problem that has them is
-//! refused. The fleet is not part of a `.vrp` text.
+//! Sources: as for `instance_read`. A problem with time windows is written in Li and Lim's format if its requests
+//! are pairs, and in Solomon's if each has one stop. If it has both, it is refused. In these formats stops keep
+//! their own numbers, with any gaps between them. A `.vrp` text can't express time windows, services or gaps, so
+//! a problem that has them is refused. The fleet is not part of a `.vrp` text.
 //!
 //! Modules, in reading order:
 //! - `faults`: the reasons why a problem is not written

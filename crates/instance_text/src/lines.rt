@@ -8,7 +8,7 @@ ghost use Rattle.instance_text.specs.Texts.{heading_text, key_line, numbers_text
 use itoa::{Buffer, Integer};
 use std::alloc::AllocError;
 
-/// The fixed parts of a `.vrp` text and of one in Solomon's format: whole lines, and the keys of two numbers.
+/// The fixed parts of a text, in CVRPLIB's or Solomon's format: whole lines, and two keys that a number follows.
 #[derive(Clone, Copy)]
 pub(crate) enum Heading {
     Name,

@@ -15,9 +15,9 @@ use Rattle.move_ops.specs.Changes.{AreChanges, IsChange}
 use Rattle.move_ops.specs.Drafts.{DraftState, draft_of, IsDraftOf}
 use Rattle.move_ops.specs.Moves.{are_exchangeable, counterpart, exchanged}
 use Rattle.move_ops.specs.declared.changes.Change.{Change}
-use Rattle.move_ops.proofs.Applying.{asked, judge, made}
-use Rattle.move_ops.proofs.Exchanging.{others_plan, others_pinned, others_once, exchanged_is}
-use Rattle.move_ops.proofs.Leaving.{as_many}
+use Rattle.move_ops.proofs.ApplyLemmas.{changes_distinct, judge, made}
+use Rattle.move_ops.proofs.PlanExchangeLemmas.{others_plan, others_pinned, others_once, exchanged_is}
+use Rattle.move_ops.proofs.LeftOutLemmas.{as_many}
 
 module _ (found : NamedRequestsAreFound) (local : PassingIsLocal) (plans : PlansAreDisjointRoutes) (says : FeasibleAloneDecidesFeasibility) (p : Instance)
     (pins : List (List ℕ)) (d : DraftState) (is : IsDraftOf p pins d)
@@ -40,7 +40,7 @@ module _ (found : NamedRequestsAreFound) (local : PassingIsLocal) (plans : Plans
   long = length-map (draft_of d) (map (counterpart r s))
 
   pub changes_once : All (λ x. AreDistinctStops p x.route) given
-  changes_once = subst (λ (l : List Change). All (λ x. AreDistinctStops p x.route) l) (sym same) (asked local says p pins d is others plan once pinned long cs are)
+  changes_once = subst (λ (l : List Change). All (λ x. AreDistinctStops p x.route) l) (sym same) (changes_distinct local says p pins d is others plan once pinned long cs are)
 
   judged : (t : Bool) → t ≡ list_all (λ x. feasible_alone p x.route) given → t ≡ list_all (λ x. feasible_alone p x.route) cs
   judged t e = e ∙ ap (list_all (λ (x : Change). feasible_alone p x.route)) same
@@ -52,6 +52,6 @@ module _ (found : NamedRequestsAreFound) (local : PassingIsLocal) (plans : Plans
       (judged t e ∙ judge local says p pins d is others plan once pinned long cs are))
 
   pub exchange_made : RequestsAreStoredByName → true ≡ list_all (λ x. feasible_alone p x.route) given → IsChange p pins (draft_of d) cs d.cost.unplanned
-  exchange_made stand e =
+  exchange_made stored e =
       made local says p pins d is others plan once pinned long cs are d.cost.unplanned
-      (ap (λ (k : Cost). k.unplanned) is.cost ∙ as_many found stand p is.valid a b apart r s first second pins (draft_of d) can) (judged true e)
+      (ap (λ (k : Cost). k.unplanned) is.cost ∙ as_many found stored p is.valid a b apart r s first second pins (draft_of d) can) (judged true e)

@@ -11,7 +11,7 @@ use Rattle.plan_audit.proofs.AloneLemmas.{only_route}
 use Rattle.plan_audit.proofs.SoundLemmas.{stop_there, stop_within}
 use Rattle.slack_tables.specs.Insertion.{KeepsLimits}
 use Rattle.move_ops.specs.Laws.{LimitsAreRules}
-use Rattle.move_ops.proofs.Fitting.{idle_limits}
+use Rattle.move_ops.proofs.FitLemmas.{idle_limits}
 
 module _ (p : Instance) (route : List ℕ) where
   not_overloaded : KeepsLimits p route → (r i n : ℕ) → IsOverloaded p (route ∷ []) r i n → ⊥

@@ -3,7 +3,7 @@ use Rattle.std.proofs.Common.{◌≡◌, ◌++◌, ◌∷◌, ℕ, ℤ, zero, su
 use Rattle.slack_tables.specs.Course.{Course}
 use Rattle.slack_tables.specs.FitsNowhere.{IsMaxDemand}
 use Rattle.move_ops.specs.MaxDemands.{AreMaxDemands}
-use Rattle.move_ops.proofs.Times.{none_some, some_same}
+use Rattle.move_ops.proofs.OccurrenceLemmas.{none_some, some_same}
 
 -- a greatest demand for a course is one for an equal course
 same_room : (a c : Course) (x y : ℤ) → IsMaxDemand a x → Some a ≡ Some c → Some x ≡ Some y → IsMaxDemand c y

@@ -17,12 +17,12 @@ use Rattle.move_ops.specs.Laws.{BestInsertionsAreLeast, IsBest}
 use Rattle.move_ops.specs.Tables.{plan_of, AreTablesIn}
 use Rattle.move_ops.specs.Drafts.{DraftState, draft_of, IsDraftOf, IsMade, placed}
 use Rattle.move_ops.specs.Changes.{IsInsertable}
-use Rattle.move_ops.specs.Choosing.{IsBestWithin}
+use Rattle.move_ops.specs.InsertionSearch.{IsBestWithin}
 use Rattle.move_ops.specs.declared.tables.Limit.{Limit}
-use Rattle.move_ops.proofs.Choosing.{name_of}
+use Rattle.move_ops.proofs.ChoiceLemmas.{name_of}
 use Rattle.move_ops.proofs.Places.{within, listed}
-use Rattle.move_ops.proofs.Placing.{is_put}
-use Rattle.move_ops.proofs.Drafting.{plan_with, tables_with}
+use Rattle.move_ops.proofs.ValidPlaceLemmas.{is_put}
+use Rattle.move_ops.proofs.DraftLemmas.{plan_with, tables_with}
 
 pub placed_none : (p : Instance) (pins routes : List (List ℕ)) (name : ℕ) → None ≡ best_insertion p pins routes name → routes ≡ placed p pins routes name
 placed_none p pins routes name none = rw (sym none) refl
@@ -31,21 +31,21 @@ placed_none p pins routes name none = rw (sym none) refl
 pub best_put : NamedRequestsAreFound → RequestsAreStoredByName → PassingIsLocal → FeasibleAloneDecidesFeasibility → StopsAreBelowNext → BestInsertionsAreLeast
     → (p : Instance) (pins routes : List (List ℕ)) → IsInstance p → passes p pins routes ≡ true → (r : Request) → request_named p (request_name r) ≡ Some r
     → (o : Option Insertion) → best_insertion p pins routes (request_name r) ≡ o → IfSome o (IsInsertable p pins routes r)
-best_put law stand local says below least p pins routes valid good r named None best = tt
-best_put law stand local says below least p pins routes valid good r named (Some x) best =
+best_put law stored local says below least p pins routes valid good r named None best = tt
+best_put law stored local says below least p pins routes valid good r named (Some x) best =
     let is : IsBest p pins routes r x =
     subst (λ (o : Option Insertion). MatchOption o (insertions p pins routes (request_name r) ≡ []) (IsBest p pins routes r)) best
     (least p pins routes (request_name r) r named) in
     let reported = listed p pins routes r x (within (insertions_of p pins routes r) x is.among) in
-    is_put law stand local says below p pins routes valid good r named x reported.0 reported.1 reported.2
+    is_put law stored local says below p pins routes valid good r named x reported.0 reported.1 reported.2
 
 -- the best insertion within a limit can be inserted, too
 pub within_put : NamedRequestsAreFound → RequestsAreStoredByName → PassingIsLocal → FeasibleAloneDecidesFeasibility → StopsAreBelowNext → BestInsertionsAreLeast
     → (p : Instance) (pins routes : List (List ℕ)) → IsInstance p → passes p pins routes ≡ true → (r : Request) → request_named p (request_name r) ≡ Some r
     → (l : Limit) (o : Option Insertion) → IsBestWithin p pins routes r l o → IfSome o (IsInsertable p pins routes r)
-within_put law stand local says below least p pins routes valid good r named l None best = tt
-within_put law stand local says below least p pins routes valid good r named l (Some x) best =
-    best_put law stand local says below least p pins routes valid good r named (Some x) best.0
+within_put law stored local says below least p pins routes valid good r named l None best = tt
+within_put law stored local says below least p pins routes valid good r named l (Some x) best =
+    best_put law stored local says below least p pins routes valid good r named (Some x) best.0
 
 placed_is : (p : Instance) (pins routes : List (List ℕ)) (r : Request) (x : Insertion)
     → best_insertion p pins routes (request_name r) ≡ Some x → IsInsertable p pins routes r x

@@ -23,16 +23,16 @@ use Rattle.slack_tables.specs.declared.request.RequestDistances.{RequestDistance
 use Rattle.slack_tables.proofs.InsertLemmas.{request-valid}
 use Rattle.move_ops.specs.Insertion.{route_of}
 use Rattle.move_ops.specs.Laws.{PlansPassWithoutPins}
-use Rattle.move_ops.specs.Refreshing.{AreWithin}
+use Rattle.move_ops.specs.FreshTables.{AreWithin}
 use Rattle.move_ops.specs.Tables.{plan_of, AreTablesIn}
-use Rattle.move_ops.specs.Choosing.{candidate_place, InsertionLaws, IsQuery, IsBestAmongThese, IsBestWithin, IsEntryOf}
-use Rattle.move_ops.specs.Choosing.{IsScannable, IsScanned, IsEntryWithStops, IsEntryOrUpTo, HasIdle, IsBetter, IsScanLen}
+use Rattle.move_ops.specs.InsertionSearch.{candidate_place, InsertionLaws, IsQuery, IsBestAmongThese, IsBestWithin, IsEntryOf}
+use Rattle.move_ops.specs.InsertionSearch.{IsScannable, IsScanned, IsEntryWithStops, IsEntryOrUpTo, HasIdle, IsBetter, IsScanLen}
 use Rattle.move_ops.specs.declared.tables.Candidate.{Candidate}
 use Rattle.move_ops.specs.declared.tables.Limit.{Limit}
-use Rattle.move_ops.proofs.Fitting.{route_limits}
-use Rattle.move_ops.proofs.Replacing.{parts}
-use Rattle.move_ops.proofs.Times.{none_some, some_same}
-use Rattle.move_ops.proofs.Choosing.{pin_within, bettered, skipped, these_same, answer_is}
+use Rattle.move_ops.proofs.FitLemmas.{route_limits}
+use Rattle.move_ops.proofs.ReplacementLemmas.{parts}
+use Rattle.move_ops.proofs.OccurrenceLemmas.{none_some, some_same}
+use Rattle.move_ops.proofs.ChoiceLemmas.{pin_within, bettered, skipped, these_same, answer_is}
 
 -- the table at an index is that of the vehicle's route
 module _ (courses : List Course) (k : ℕ) (c : Course) (is : c ≡ get_or courses k c) (in_range : k < length courses) where
@@ -80,9 +80,9 @@ entry_at n entries j d v all below is =
 pub idle_more : (routes : List (List ℕ)) (k : ℕ) → HasIdle routes k → HasIdle routes (k + 1)
 idle_more routes k idle = (idle.0, idle.1, (let h = idle.2 in omega arith), idle.3, idle.4)
 
-module _ (laws : InsertionLaws) {p : Instance} {pins : List (List ℕ)} {courses : List Course} {r : Request} (asked : IsQuery p pins courses r) where
+module _ (laws : InsertionLaws) {p : Instance} {pins : List (List ℕ)} {courses : List Course} {r : Request} (query : IsQuery p pins courses r) where
   pub request_valid : IsRequest r
-  request_valid = request-valid p (request_name r) r asked.valid (asked.named)
+  request_valid = request-valid p (request_name r) r query.valid (query.named)
 
   module _ (entries : List (ℕ × Course)) where
     abbrev Scanned : ℕ → ℕ → Type 0
@@ -109,7 +109,7 @@ module _ (laws : InsertionLaws) {p : Instance} {pins : List (List ℕ)} {courses
     pub answered : (l : Limit) (answer : Option Candidate) → IsBestAmongThese p pins (plan_of courses) r l (Scanned (length courses)) answer
         → IsBestWithin p pins (plan_of courses) r l (option_map candidate_place answer)
     answered l answer up =
-        answer_is laws asked l (Scanned (length courses)) (λ v from high. inl (from, (let e = length-map courses course_route in omega arith))) answer up
+        answer_is laws query l (Scanned (length courses)) (λ v from high. inl (from, (let e = length-map courses course_route in omega arith))) answer up
 
     -- each vehicle that is not searched has no stops, like one that was searched
     rest_skipped : (l : Limit) (left k : ℕ) → k + left ≡ length (plan_of courses)
@@ -122,7 +122,7 @@ module _ (laws : InsertionLaws) {p : Instance} {pins : List (List ℕ)} {courses
     rest_skipped l (suc left) k all idle best old =
         let here = idle (k + 1) (omega arith) (omega arith) in
         rest_skipped l left (k + 1) (omega arith) (λ v above within. let h = idle v (omega arith) within in (idle_more (plan_of courses) k h.0, h.1)) best
-        (skipped laws asked l (Scanned k) (Scanned (k + 1)) (k + 1) (omega arith) (omega arith) (one_on k) (one_off k)
+        (skipped laws query l (Scanned k) (Scanned (k + 1)) (k + 1) (omega arith) (omega arith) (one_on k) (one_off k)
         (inl (omega arith, omega arith)) here.1 k (omega arith) (λ u from le. inl (from, le)) here.0 best old)
 
     pub beyond : (l : Limit) (end : ℕ) → end ≤ length courses → IsScanLen (plan_of courses) end → (best : Option Candidate)
@@ -135,7 +135,7 @@ module _ (laws : InsertionLaws) {p : Instance} {pins : List (List ℕ)} {courses
   module _ (k : ℕ) (c : Course) (is : c ≡ get_or courses k c) (in_range : k < length courses) where
     pin_fits : length (route_of pins (k + 1)) ≤ length c.stops
     pin_fits =
-        let f = pin_within laws.local p pins (plan_of courses) asked.good (k + 1) in
+        let f = pin_within laws.local p pins (plan_of courses) query.good (k + 1) in
         let g = ap length (route_at courses k c is in_range) in
         let h = stops_long courses k c is in_range in
         omega arith
@@ -143,9 +143,9 @@ module _ (laws : InsertionLaws) {p : Instance} {pins : List (List ℕ)} {courses
     -- the requirements for a search at the vehicle of the table
     pub lookable : (ways : RequestDistances) → AreDistances p.depot r ways → IsScannable p pins r ways (k + 1) c
     lookable ways are = record {
-      problem = asked.valid;
-      course = course_at courses k c is in_range p asked.tables;
-      request = asked.named;
+      problem = query.valid;
+      course = course_at courses k c is in_range p query.tables;
+      request = query.named;
       valid = request_valid;
       ways = are;
       pin = pin_fits;
@@ -201,7 +201,7 @@ module _ (laws : InsertionLaws) {p : Instance} {pins : List (List ℕ)} {courses
       named_more l n e at same some few best result old looked =
           let g = ap length (route_at courses k c is in_range) in
           let h = stops_long courses k c is in_range in
-          bettered laws asked l (IsEntryWithStops (plan_of courses) entries n) (IsEntryWithStops (plan_of courses) entries (n + 1)) (k + 1)
+          bettered laws query l (IsEntryWithStops (plan_of courses) entries n) (IsEntryWithStops (plan_of courses) entries (n + 1)) (k + 1)
           (omega arith) high (named_on n) (named_off n e at same)
           (record { place = n; entry = e; below = omega arith; at = at; same = same; some = omega arith }) (few_stops few) best result old
           (by_plan l best result (elim looked [ inl better ↦ better | inr known ↦ absurd (no_entry known.1.0 known.1.1 known.1.2) ]))
@@ -223,7 +223,7 @@ module _ (laws : InsertionLaws) {p : Instance} {pins : List (List ℕ)} {courses
           → IsScanned p (course_route c) r (length (route_of pins (k + 1))) entries (k + 1) l best result
           → IsBestAmongThese p pins (plan_of courses) r l (Scanned entries (k + 1)) result
       one_more l few best result old looked = elim looked [
-        | inl better ↦ bettered laws asked l (Scanned entries k) (Scanned entries (k + 1)) (k + 1) (omega arith) high (one_on entries k)
+        | inl better ↦ bettered laws query l (Scanned entries k) (Scanned entries (k + 1)) (k + 1) (omega arith) high (one_on entries k)
             (one_off entries k) (inl (omega arith, omega arith)) (few_stops few) best result old (by_plan l best result better)
         | inr known ↦ subst (IsBestAmongThese p pins (plan_of courses) r l (Scanned entries (k + 1))) (sym known.2)
             (these_same p pins (plan_of courses) r l (Scanned entries k) (Scanned entries (k + 1)) (one_on entries k)
@@ -249,7 +249,7 @@ module _ (laws : InsertionLaws) {p : Instance} {pins : List (List ℕ)} {courses
           → IsBestAmongThese p pins (plan_of courses) r l (Scanned entries k) best
           → IsBestAmongThese p pins (plan_of courses) r l (Scanned entries (k + 1)) best
       one_skipped l none idle best old =
-          skipped laws asked l (Scanned entries k) (Scanned entries (k + 1)) (k + 1) (omega arith) high (one_on entries k)
+          skipped laws query l (Scanned entries k) (Scanned entries (k + 1)) (k + 1) (omega arith) high (one_on entries k)
           (one_off entries k) (inl (omega arith, omega arith)) (empty_at none) k (omega arith)
           (λ u from le. inl (from, le)) idle best old
 

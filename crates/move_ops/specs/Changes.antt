@@ -11,7 +11,7 @@ use Rattle.slack_tables.specs.Course.{Course, course_of, course_route, IsCourseI
 use Rattle.slack_tables.specs.Insertion.{KeepsLimits}
 use Rattle.move_ops.specs.Insertion.{Insertion, with_route, with_request_at, route_of, inserted, are_places, inserted_at}
 use Rattle.move_ops.specs.Moves.{is_movable_name, is_of_named, without_named}
-use Rattle.move_ops.specs.Pairing.{are_paired}
+use Rattle.move_ops.specs.WholePairs.{are_paired}
 use Rattle.move_ops.specs.declared.changes.Change.{Change}
 
 -- the number of different names
@@ -77,19 +77,19 @@ pub record AreChanges (old new : List (List ℕ)) (changes : List Change) : Type
 abbrev pub IsVehicleWith : List (List ℕ) → ℕ → ℕ → Type 0
 IsVehicleWith routes n v = (1 ≤ v → has (route_of routes v) n ≡ true) × (v ≡ 0 → has_stop routes n ≡ false)
 
--- the list has the vehicle of each stop for which `asked` holds
+-- the list has the vehicle of each stop for which `Is` holds
 abbrev pub AreVehiclesOf : List (List ℕ) → (ℕ → Type 0) → List ℕ → Type 0
-AreVehiclesOf routes asked vs = (v n : ℕ) → asked n → has (route_of routes v) n ≡ true → has vs v ≡ true
+AreVehiclesOf routes Is vs = (v n : ℕ) → Is n → has (route_of routes v) n ≡ true → has vs v ≡ true
 
 -- these are vehicles that have a route
 abbrev pub AreIn : List (List ℕ) → List ℕ → Type 0
 AreIn routes vs = All (λ v. (1 ≤ v) × (v ≤ length routes)) vs
 
--- `after` has the vehicles of `before`, and also those of the stops for which `asked` holds
-pub record Collects (routes : List (List ℕ)) (asked : ℕ → Type 0) (before after : List ℕ) : Type 0 where
+-- `after` has the vehicles of `before`, and also those of the stops for which `Is` holds
+pub record Collects (routes : List (List ℕ)) (Is : ℕ → Type 0) (before after : List ℕ) : Type 0 where
   pub within : AreIn routes before → AreIn routes after
   pub stays : (v : ℕ) → has before v ≡ true → has after v ≡ true
-  pub found : AreVehiclesOf routes asked after
+  pub found : AreVehiclesOf routes Is after
 
 -- each of these requests can be moved, and the list has the vehicles of their stops
 pub record AreVehiclesToChange (p : Instance) (pins routes : List (List ℕ)) (names vs : List ℕ) : Type 0 where

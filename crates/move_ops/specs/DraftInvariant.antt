@@ -4,7 +4,7 @@ use Rattle.route_sched.specs.Cost.{has_stop}
 use Rattle.move_ops.specs.Tables.{plan_of}
 use Rattle.move_ops.specs.Drafts.{DraftState, AreIdleAfter}
 use Rattle.move_ops.specs.UndoLog.{AreOnce}
-use Rattle.move_ops.specs.Refreshing.{AreWithin}
+use Rattle.move_ops.specs.FreshTables.{AreWithin}
 use Rattle.move_ops.specs.MaxDemands.{AreMaxDemands}
 use Rattle.move_ops.specs.declared.draft.Draft.TheInside.{Inside}
 

@@ -22,7 +22,7 @@ pub record IsSinglePlace (routes : List (List ℕ)) (s : SinglePlace) : Type 0 w
 pub record IsSinglePlaceOf (p : Instance) (routes : List (List ℕ)) (name : ℕ) (s : SinglePlace) : Type 0 where
   pub named : request_named p name ≡ Some (Single s.stop)
   pub visit : IsVisit s.stop
-  pub seat : IsSinglePlace routes s
+  pub place : IsSinglePlace routes s
   pub at : slice_get (route_of routes s.vehicle) s.index ≡ Some s.stop.number
 
 -- two vehicles with the cuts of their routes

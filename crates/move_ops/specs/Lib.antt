@@ -1,7 +1,7 @@
 -- definitions that public contracts use
-pub mod BoundedPlacing
+pub mod BoundedPlacement
 pub mod Drafts
-pub mod Costing
+pub mod MoveCosts
 pub mod Insertion
 pub mod Laws
 pub mod Moves
@@ -9,10 +9,10 @@ pub mod Savings
 pub mod Tables
 -- definitions that only private contracts use
 pub mod Changes
-pub mod Choosing
+pub mod InsertionSearch
 pub mod DraftInvariant
 pub mod UndoLog
-pub mod Pairing
-pub mod Refreshing
+pub mod WholePairs
+pub mod FreshTables
 pub mod MaxDemands
 pub mod Legs

@@ -66,7 +66,7 @@ is_cut pins routes v c = nat_le 1 v && (nat_le v (length routes) && (nat_le (len
 
 -- the first c stops of one route, followed by another route after its first d stops
 abbrev pub joined : List ℕ → ℕ → List ℕ → ℕ → List ℕ
-joined front c back d = take c front ++ drop d back
+joined one c other d = take c one ++ drop d other
 
 -- the plan in which vehicles a and b exchange the stops after their cuts
 abbrev pub with_ends_exchanged : List (List ℕ) → ℕ → ℕ → ℕ → ℕ → List (List ℕ)

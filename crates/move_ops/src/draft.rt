@@ -9,7 +9,7 @@
 //! Besides the routes, the draft keeps the following data, so that the time of a step does not grow with the
 //! fleet:
 //! - `used_len`: the length of the used part of the plan. No vehicle after it has a stop. Best insertions look
-//!   at the vehicles of the used part and at the next one, which stands for all idle vehicles. A request that
+//!   at the vehicles of the used part and at the next one, which represents all idle vehicles. A request that
 //!   opens a vehicle takes the first idle one, so few vehicles of the used part are empty;
 //! - `vehicle_hints`: for each stop, the vehicle to look at first. 0 says that no route has the stop, which is
 //!   an invariant. Any other number is a hint that may be stale, so it is checked;
@@ -29,10 +29,10 @@ ghost use Rattle.route_sched.specs.Cost.{cost_of, has_stop, is_planned};
 ghost use Rattle.move_ops.specs.Insertion.{route_of};
 ghost use Rattle.move_ops.specs.Moves.{is_movable};
 ghost use Rattle.move_ops.specs.Changes.{IsVehicleWith};
-ghost use Rattle.move_ops.specs.Choosing.{IsScanLen};
+ghost use Rattle.move_ops.specs.InsertionSearch.{IsScanLen};
 ghost use Rattle.move_ops.specs.Drafts.{AreIdleAfter, DraftState, undone, draft_of, base_of, IsDraftOf};
 ghost use Rattle.move_ops.specs.UndoLog.{is_logged, IsEntry};
-ghost use Rattle.move_ops.specs.Refreshing.{AreWithin};
+ghost use Rattle.move_ops.specs.FreshTables.{AreWithin};
 
 mod costing;
 mod installing;
@@ -197,7 +197,7 @@ impl Draft {
     }
 
     /// Returns how many vehicles a best insertion looks at: the used part and, if there is one, the next
-    /// vehicle. The next vehicle has no stops and stands for all later ones.
+    /// vehicle. The next vehicle has no stops and represents all later ones.
     pub(crate) fn scan_len(&self) -> usize
         ensures within { result ≤ length self.now.tours }
         ensures scan_len { IsScanLen (draft_of self.now) result }
@@ -255,7 +255,7 @@ impl Draft {
     }
 
     /// Returns whether a route of the draft has the stop.
-    #[tactic(auto, using(crate::proofs::Gathering::has_by_vehicle))]
+    #[tactic(auto, using(crate::proofs::VehicleListLemmas::has_by_vehicle))]
     pub fn has_stop(&self, stop: u32) -> bool
         ensures { result ≡ has_stop (draft_of self.now) stop }
     {

@@ -1,6 +1,6 @@
 //! Laws of the best insertion. The best insertion is the first one by cost and then by place. A removed request
 //! always has a best insertion, since the request fits where it was.
-ghost use Rattle.move_ops.specs.Choosing.{InsertionLaws};
+ghost use Rattle.move_ops.specs.InsertionSearch.{InsertionLaws};
 ghost use Rattle.move_ops.specs.Savings.{PlacementsSaveLittle};
 ghost use Rattle.move_ops.specs.Laws.{BestInsertionsAreLeast, BestInsertionsAreUnique, InsertionsAreFeasible, LimitsAreRules, PlansPassWithoutPins, RelocationsNeverCostMore, RequestsKeepTheirPlaces};
 

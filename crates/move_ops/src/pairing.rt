@@ -3,7 +3,7 @@ ghost use Rattle.std.specs.Prelude.{◌≡◌, not, true, false};
 ghost use Rattle.std.specs.Option.{option_map_or};
 ghost use Rattle.plan_types.specs.Instance.{partner_at, pickup_at};
 ghost use Rattle.plan_audit.specs.Passes.{has, has_whole_pairs, picks_up_first};
-ghost use Rattle.move_ops.specs.Pairing.{are_paired};
+ghost use Rattle.move_ops.specs.WholePairs.{are_paired};
 
 use crate::lists::is_in;
 use plan_types::Problem;

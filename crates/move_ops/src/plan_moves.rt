@@ -8,6 +8,7 @@ ghost use Rattle.move_ops.specs.Insertion.{best_insertion, inserted_at};
 ghost use Rattle.move_ops.specs.Moves.{removed, exchanged, crossed};
 
 use crate::draft::Draft;
+use crate::insert::{Insertion, tuple_of};
 use plan_types::{OutOfMemory, Pins, Plan, Problem};
 use std::alloc::Global;
 
@@ -29,7 +30,7 @@ pub fn insert_at(
         ≡ inserted_at problem.now pins.now.routes plan.now.routes name insertion) }
 {
     let mut draft = Draft::build(alloc, problem, pins, plan)?;
-    let made = draft.insert(problem, pins, name, insertion)?;
+    let made = draft.insert(problem, pins, name, Insertion::from_tuple(insertion))?;
     plan_if(alloc, &draft, made)
 }
 
@@ -53,7 +54,7 @@ pub fn best_insertion(
         return Ok(None);
     };
     let draft = Draft::build(alloc, problem, pins, plan)?;
-    Ok(draft.best(problem, pins, request))
+    Ok(tuple_of(draft.best(problem, pins, request)))
 }
 
 /// Removes these requests from the plan, all at once. A repeated name counts once; without names the plan stays

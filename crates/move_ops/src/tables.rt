@@ -20,11 +20,12 @@ ghost use Rattle.slack_tables.specs.Course.{course_route};
 ghost use Rattle.slack_tables.specs.RequestFloors.{AreDistances};
 ghost use Rattle.move_ops.specs.Insertion.{request_named, route_of, best_insertion};
 ghost use Rattle.plan_audit.specs.Passes.{passes};
-ghost use Rattle.move_ops.specs.Refreshing.{fresh_of, AreWithin};
+ghost use Rattle.move_ops.specs.FreshTables.{fresh_of, AreWithin};
 ghost use Rattle.move_ops.specs.Tables.{plan_of, AreVehicles};
-ghost use Rattle.move_ops.specs.Choosing.{opens, bound_of, bound_over, candidate_place, IsQuery, IsQueryOver, IsBestAmongThese, IsBestWithin, IsScannable, IsScanned, IsLooseBound, bound_against, IsBetter, IsEntryOf, IsEntryWithStops, IsBelowMaximum};
+ghost use Rattle.move_ops.specs.InsertionSearch.{opens, bound_of, bound_over, candidate_place, IsQuery, IsQueryOver, IsBestAmongThese, IsBestWithin, IsScannable, IsScanned, IsLooseBound, bound_against, IsBetter, IsEntryOf, IsEntryWithStops, IsBelowMaximum};
 
 use crate::facts::problem_keeps_limits;
+use crate::insert::{Insertion, tuple_of};
 use crate::laws::insertion_laws;
 use crate::lists::route_of;
 use crate::max_demands::is_full;
@@ -60,11 +61,15 @@ struct Candidate {
 }
 
 impl Candidate {
-    // Returns the vehicle, the pickup's place and the delivery's place.
-    fn place(&self) -> (u64, u64, u64)
+    // Returns the insertion without its distance.
+    fn place(&self) -> Insertion
         ensures { result ≡ candidate_place self.now }
     {
-        (self.vehicle, self.addition.pickup, self.addition.delivery)
+        Insertion {
+            vehicle: self.vehicle,
+            pickup: self.addition.pickup,
+            delivery: self.addition.delivery,
+        }
     }
 }
 
@@ -97,7 +102,7 @@ pub(crate) struct Vehicles<'a> {
     /// The greatest demand that a single may have in each vehicle, as far as it is known.
     pub max_demands: &'a [i64],
     /// The number of vehicles to look at. All later vehicles are idle. If there are any, one of the first `end`
-    /// is idle, too, and stands for them.
+    /// is idle, too, and represents them.
     pub end: usize,
     /// The vehicles to look at first.
     pub first: &'a [(u32, Tour)],
@@ -114,7 +119,7 @@ impl Tables {
     ghost use Rattle.std.specs.Prelude.{OnOk, OnErr};
     ghost use Rattle.std.specs.Option.{IsSomeAnd};
     ghost use Rattle.route_sched.specs.Cost.{is_planned};
-    ghost use Rattle.move_ops.specs.Refreshing.{replaced, AreWithin};
+    ghost use Rattle.move_ops.specs.FreshTables.{replaced, AreWithin};
     ghost use Rattle.move_ops.specs.Tables.{tables_of, AreTablesIn, DifferOnlyAt};
 
     /// Builds the tables of a plan that passes.
@@ -152,7 +157,7 @@ impl Tables {
             end: tables.len(),
             first: &[],
         };
-        best_within(&terms, &vehicles, request)
+        tuple_of(best_within(&terms, &vehicles, request))
     }
 
     /// Rebuilds the tables of these vehicles for a plan whose other routes are those of the tables. Vehicles
@@ -231,7 +236,7 @@ pub(crate) fn best_within(
     terms: &InsertionContext,
     vehicles: &Vehicles,
     request: &Request,
-) -> Option<(u64, u64, u64)>
+) -> Option<Insertion>
     requires { let t = terms.now in let v = vehicles.now in IsQueryOver t.problem.now t.pins.now
         v.tables.now v.max_demands.now v.end v.first.now request.now }
     ensures { let t = terms.now in IsBestWithin t.problem.now t.pins.now
@@ -249,7 +254,7 @@ pub(crate) fn best_within(
 
 // Returns the best insertion if it costs less than the limit. `max_demands` is empty for a pair. The function
 // is inlined twice, so that the loop over the vehicles does not check again whether the request is a single.
-// Empty vehicles are alike, so the first of them stands for all, also for those after `end`.
+// Empty vehicles are alike, so the first of them represents all, also those after `end`.
 #[inline(always)]
 fn best_by_max_demands(
     terms: &InsertionContext,
@@ -306,7 +311,7 @@ fn best_of_first(
     request: &Request,
     ways: &RequestDistances,
 ) -> Option<Candidate>
-    requires asked { IsQuery terms.now.problem.now terms.now.pins.now vehicles.now.tables.now
+    requires query { IsQuery terms.now.problem.now terms.now.pins.now vehicles.now.tables.now
         request.now }
     requires distances { AreDistances terms.now.problem.now.depot request.now ways.now }
     requires first { AreWithin (length vehicles.now.tables.now) vehicles.now.first.now }

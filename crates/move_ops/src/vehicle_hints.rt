@@ -8,7 +8,7 @@ use plan_types::{OutOfMemory, Route};
 use std::alloc::Global;
 
 /// Sets the hints of these stops to this vehicle.
-#[tactic(auto, using(crate::proofs::Drafting::has_more))]
+#[tactic(auto, using(crate::proofs::DraftLemmas::has_more))]
 pub(crate) fn set_hints(vehicle_hints: &mut [u32], stops: &[u32], vehicle: u32)
     requires { 1 ≤ vehicle }
     ensures stops { (n : ℕ) → slice_get vehicle_hints.new n ≡ Some 0 → has stops.now n ≡ false }
@@ -20,7 +20,7 @@ pub(crate) fn set_hints(vehicle_hints: &mut [u32], stops: &[u32], vehicle: u32)
     }
 }
 
-#[tactic(auto, using(crate::proofs::Drafting::seat_first, crate::proofs::Drafting::seat_outside))]
+#[tactic(auto, using(crate::proofs::DraftLemmas::hint_set, crate::proofs::DraftLemmas::hint_outside))]
 fn set_hint(vehicle_hints: &mut [u32], stop: u32, vehicle: u32)
     requires { 1 ≤ vehicle }
     ensures set_hints { (n : ℕ) → slice_get vehicle_hints.new n ≡ Some 0
@@ -34,7 +34,7 @@ fn set_hint(vehicle_hints: &mut [u32], stop: u32, vehicle: u32)
 }
 
 /// Sets the hint of this stop to 0: no route has the stop.
-#[tactic(auto, using(crate::proofs::Drafting::unseat_first))]
+#[tactic(auto, using(crate::proofs::DraftLemmas::hint_cleared))]
 pub(crate) fn clear_hint(vehicle_hints: &mut [u32], stop: u32)
     ensures set_hints { (n : ℕ) → slice_get vehicle_hints.new n ≡ Some 0
         → (n ≡ stop) ⊎ (slice_get vehicle_hints.old n ≡ Some 0) }

@@ -12,7 +12,7 @@ use Rattle.sol_text.specs.declared.faults.SolFaultKind.{SolFaultKind}
 use Rattle.sol_text.specs.declared.faults.SolFaultKind.TheVariants.{BadLine, BadNumber, NoCost, OutOfMemory}
 use Rattle.plan_explain.specs.AfterCost.{ReadingEndsAtCost, ReportedLineIsUnread, first_nonblank_after_cost, first_nonblank, up_to_cost}
 
--- the answer for lines after the cost line (true), or before it (false)
+-- the result of `line_after_cost` for the remaining lines, after the cost line (true) or before it (false)
 abbrev pub first_nonblank_from : Bool → ℕ → List (List ℕ) → Option ℕ
 first_nonblank_from true n lines = first_nonblank n lines
 first_nonblank_from false n lines = first_nonblank_after_cost n lines
@@ -20,7 +20,7 @@ first_nonblank_from false n lines = first_nonblank_after_cost n lines
 none_some : {X : Type 0} (x : X) → None ≡ Some x → ⊥
 none_some x e = absurd cc
 
--- ---- only the lines up to the cost line count
+-- ---- only the lines up to the cost line matter
 abbrev HasNoCost : List (List ℕ) → Type 0
 HasNoCost lines = AllByRecursion (λ line. is_cost_line line ≡ false) lines
 
@@ -30,7 +30,8 @@ read_at line lines is = rw is refl
 read_on : (line : List ℕ) (lines : List (List ℕ)) → is_cost_line line ≡ false → up_to_cost (line ∷ lines) ≡ line ∷ up_to_cost lines
 read_on line lines is = rw is refl
 
--- if two files read the same and begin with lines that are not cost lines, the rest reads the same
+-- Two files have the same lines up to the cost line, and it is not the first line. Then the first lines are
+-- equal, and the remaining lines are the same up to the cost line.
 rest_same : (line other : List ℕ) (lines others : List (List ℕ)) → up_to_cost (line ∷ lines) ≡ up_to_cost (other ∷ others) → is_cost_line line ≡ false
     → (line ≡ other) × (is_cost_line other ≡ false) × (up_to_cost lines ≡ up_to_cost others)
 rest_same line other lines others same apart =
@@ -91,7 +92,7 @@ routes_read (line ∷ lines) = elim (cases_Bool (is_cost_line line)) [
 solution_read : (lines : List (List ℕ)) → solution_in_lines (up_to_cost lines) ≡ solution_in_lines lines
 solution_read lines = rw (find_read lines, routes_read lines) refl
 
--- ---- two files of which the same lines are read
+-- ---- two files with the same lines up to the cost line
 module _ (text other : List ℕ) (same : up_to_cost (lines_of text) ≡ up_to_cost (lines_of other)) where
   fault_to : (line : ℕ) (kind : SolFaultKind) → Fault text line kind → Fault other line kind
   fault_to line kind fault = (fault.0, fault.1, fault_same (lines_of text) (lines_of other) fault.0 kind same fault.2)
@@ -105,7 +106,7 @@ reading_ends_at_cost text other same = (
   λ f first. (fault_to text other same f.line f.kind first.0, λ line kind fault. first.1 line kind (fault_to other text (sym same) line kind fault)),
 )
 
--- ---- the line that is reported
+-- ---- the line that `line_after_cost` returns
 filled_from_on : (lines : List (List ℕ)) (n m : ℕ) → first_nonblank n lines ≡ Some m → n ≤ m
 filled_from_on [] n m is = absurd (none_some m is)
 filled_from_on (line ∷ lines) n m is = elim (cases_Bool (is_blank_line line)) [

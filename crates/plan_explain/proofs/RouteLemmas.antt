@@ -1,4 +1,4 @@
--- The route of the violation.
+-- If the schedule is known, the stops of each route, and so of the reported route, are known and distinct.
 use Rattle.std.proofs.Common.{◌≡◌, ℕ, zero, true, suc, List, [], All, Some, slice_get, unwrap_or, inl, inr, refl, sym, ap, subst, ◌∙◌, arith}
 use Rattle.std.specs.List.{IsDistinct}
 use Rattle.std.proofs.lemmas.Option.{slice_get_cases}

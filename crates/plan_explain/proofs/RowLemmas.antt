@@ -21,7 +21,7 @@ module _ (p : Instance) (route : List ℕ) (k : ℕ) (last visit : Visit) (stop 
   arrival_is : last.start + last.stop.service + visit.leg ≡ arrival p route k
   arrival_is = omega (arith, begun, ap (λ (s : Stop). s.service) stop, ap (λ (v : Visit). v.leg) is)
 
-  -- the visit that the code builds is the one of the place
+  -- the visit that the code builds is that of place k + 1
   pub stop_visit_is : stop_visit_at (k + 1) (last.start + last.stop.service + visit.leg) visit ≡ stop_visit_after p route k
   stop_visit_is = ap (λ a. stop_visit_at (k + 1) a visit) arrival_is ∙ ap (stop_visit_at (k + 1) (arrival p route k)) is
 
@@ -29,7 +29,7 @@ module _ (p : Instance) (route : List ℕ) (k : ℕ) (last visit : Visit) (stop 
   pub in_time : last.start + last.stop.service + visit.leg ≤ visit.start
   in_time = omega (arith, arrival_is, arrives_before p route k, ap (λ (v : Visit). v.start) is)
 
--- the row at an index below the number of rows
+-- the row at index k is that of place k + 1
 row_at : (p : Instance) (route : List ℕ) (rows : List Row) (k : ℕ) (d : Row) → rows ≡ rows_of p route → k < length rows
     → slice_index_or rows k d ≡ row_after p route k
 row_at p route rows k d are lt =
@@ -41,7 +41,7 @@ row_at p route rows k d are lt =
 pub none_left : (p : Instance) (route : List ℕ) (k : ℕ) (left : List Visit) → k ≤ length route → left ≡ visits_from p route k → left ≡ [] → ⊥
 none_left p route k left within is none = absurd (omega (arith, ap length (sym none ∙ is ∙ visits_from-step p route k within)))
 
--- If the waiting time so far is at most the time so far, the same holds at the next place.
+-- If the waiting time up to place k is at most the start there, this also holds at place k + 1.
 pub waits_on : (p : Instance) (route : List ℕ) (rows : List Row) (k : ℕ) (d : Row) (so_far more : ℕ) → rows ≡ rows_of p route → k < length rows
     → so_far ≤ start p route k → more ≡ waiting_time (slice_index_or rows k d)
     → (so_far + more ≤ start p route (k + 1)) × (start p route (k + 1) ≡ (slice_index_or rows k d).start)

@@ -12,37 +12,40 @@ use Rattle.instance_read.specs.declared.vrp_lines.Key.{Key}
 use Rattle.plan_explain.specs.Quotes.{is_fraction, shown_bytes}
 use Rattle.plan_explain.specs.Templates.{field_name, form, key_name, line_name, required_value, text_if}
 
--- the wrong number; the text of the kind already has the limit
+-- the number that is too large, with its field; the description of the kind already names the limit
 abbrev pub too_many_text : List ℕ → Field → List ℕ
 too_many_text word fields.Number = form (codes ": task @") (shown_bytes word ∷ [])
 too_many_text word fields.Customer = form (codes ": customer @") (shown_bytes word ∷ [])
 too_many_text word field = form (codes ": @ is @") (field_name field ∷ shown_bytes word ∷ [])
 
--- why a word is wrong: its fraction, or its limits
+-- why a word is wrong: it has a fraction, or it is outside these limits; nothing for other kinds of faults
 abbrev pub reason_text : ReadFaultKind → List ℕ → Option (ℤ × ℤ) → List ℕ
 reason_text BadNumber word limits = text_if (codes ", which has a fraction") (is_fraction word)
 reason_text Range word (Some limits) = form (codes ", its limits are @..@") (signed_decimal limits.0 ∷ signed_decimal limits.1 ∷ [])
 reason_text _ word limits = []
 
--- the first wrong word
+-- the first wrong word, with its field and why it is wrong
 abbrev pub word_text : ReadFaultKind → Field → List ℕ → Option (ℤ × ℤ) → List ℕ
 word_text TooManyStops field word limits = too_many_text word field
 word_text kind field word limits = form (codes ": @ is @") (field_name field ∷ shown_bytes word ∷ []) ++ reason_text kind word limits
 
+-- the template for a pair whose demands do not match: the pickup's demand is negative, or else the sum of both
+-- is not 0
 abbrev pub demand_fault_text : Bool → List ℕ
 demand_fault_text is_negative =
     if is_negative then codes ": its @, task @ on line @, has demand @, this one @: that of a pickup is not negative"
     else codes ": its @, task @ on line @, has demand @, this one @: their sum is not 0"
 
--- a key that no line has
+-- the name of a missing key after a space, or nothing
 abbrev pub missing_key_text : Option Key → List ℕ
 missing_key_text None = []
 missing_key_text (Some key) = form (codes " @") (key_name key ∷ [])
 
+-- the names of the missing keys
 abbrev pub missing_text : List (Option Key) → List ℕ
 missing_text keys = codes ":" ++ flat_map missing_key_text keys
 
--- the details of keys and sections
+-- the details of a fault of a key or a section; nothing for evidence without details
 abbrev pub key_text : Evidence → List ℕ
 key_text (found.NodeCount due n section left) = form (codes ": @ due, @ found, @ lacks @ of its lines") (decimal due ∷ decimal n ∷ key_name section ∷ decimal left ∷ [])
 key_text found.WordsAfterEnd = codes ": words stand behind -1, which ends the list of depots"
@@ -56,7 +59,7 @@ key_text found.NoDimension = codes ": DIMENSION has to stand before this section
 key_text (found.MissingKeys keys) = missing_text keys
 key_text _ = []
 
--- the details of a task and the task that it names
+-- why a task is not half of a pair
 abbrev pub pair_text : Evidence → List ℕ
 pair_text found.NamesNone = codes ": it names neither a pickup nor a delivery"
 pair_text found.NamesBoth = codes ": it names both a pickup and a delivery"
@@ -67,7 +70,7 @@ pair_text (found.Demands field n line demand own is_negative) =
     form (demand_fault_text is_negative) (field_name field ∷ decimal n ∷ decimal line ∷ shown_bytes demand ∷ shown_bytes own ∷ [])
 pair_text evidence = key_text evidence
 
--- the details of a line in Solomon's format
+-- the details of a fault in a file in Solomon's format
 abbrev pub customer_text : Evidence → List ℕ
 customer_text (found.FirstCustomer n) = form (codes ": the first is customer @") (shown_bytes n ∷ [])
 customer_text (found.CustomerOutOfOrder n before) = form (codes ": customer @ follows customer @") (shown_bytes n ∷ shown_bytes before ∷ [])
@@ -75,7 +78,7 @@ customer_text (found.WrongWord line word) = form (codes ": it is @, the word mus
 customer_text (found.MissingLine line) = form (codes ": the line with @ is missing") (line_name line ∷ [])
 customer_text evidence = pair_text evidence
 
--- the details of an instance's fault of this kind
+-- the details of a fault of this kind in an instance
 abbrev pub evidence_text : ReadFaultKind → Evidence → List ℕ
 evidence_text kind (found.Count due n) = form (codes ": @ due, @ found") (decimal due ∷ decimal n ∷ [])
 evidence_text kind (found.Word field word limits) = word_text kind field word limits

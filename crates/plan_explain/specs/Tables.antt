@@ -29,15 +29,15 @@ row_after p route k = record {
   load = load p route (k + 1);
 }
 
--- the rows of a route
+-- the rows of a route, in order; the last one is the return
 abbrev pub rows_of : Instance → List ℕ → List Row
 rows_of p route = map (row_after p route) (range_with_len 0 (length route + 1))
 
--- the place after place k, with the leg to it and its service
+-- the row of the place after place k, with the leg to it and its service time
 abbrev pub stop_visit_after : Instance → List ℕ → ℕ → StopVisit
 stop_visit_after p route k = record { row = row_after p route k; leg = leg p route k; service = (place p route (k + 1)).service }
 
--- a visit at place k with this arrival
+-- this visit with its place k and its arrival
 abbrev pub stop_visit_at : ℕ → ℕ → Visit → StopVisit
 stop_visit_at k arrival visit = record {
   row = record {
@@ -53,40 +53,48 @@ stop_visit_at k arrival visit = record {
   service = visit.stop.service;
 }
 
--- the visits of a route
+-- the visits of a route, in order; the last one is the return
 abbrev pub stop_visits_of : Instance → List ℕ → List StopVisit
 stop_visits_of p route = map (stop_visit_after p route) (range_with_len 0 (length route + 1))
 
--- the departure from the place before that makes the vehicle arrive just when service starts
+-- the latest departure from the previous place that delays no service: the vehicle arrives exactly when service
+-- starts
 abbrev pub departure : StopVisit → ℕ
 departure h = h.row.start - h.leg
 
--- A problem of kind `Vrp` has no times: its rows leave out start, window and service.
+-- The heading of a table. A problem of kind `Vrp` has no times, so its rows have no arrival, start, window and
+-- service.
 abbrev pub heading : Kind → List ℕ
 heading LiLim = codes "place   stop      leg    arrival      start         window          service      load\n"
-heading Vrp = codes "place   stop      leg    arrival      load\n"
+heading Vrp = codes "place   stop      leg      load\n"
 
--- the values of a row, with a mark if the vehicle is overloaded and one if it is late
+-- the values of a row, marked as overload if `much` holds and as late if `late` holds
 unfoldable pub row_values_text : Kind → StopVisit → Bool → Bool → List ℕ
 row_values_text LiLim h much late = form (codes "@ @ @ @ @ @..@ @ @@@\n") (right 5 h.row.place ∷ right 6 h.row.stop ∷ right 8 h.leg ∷ right 10 h.row.arrival
     ∷ right 10 h.row.start ∷ right 10 h.row.earliest ∷ left 10 h.row.latest ∷ right 8 h.service ∷ right_signed 9 h.row.load
     ∷ text_if (codes "  overload") much ∷ text_if (codes "  late") late ∷ [])
-row_values_text Vrp h much late = form (codes "@ @ @ @ @@@\n") (right 5 h.row.place ∷ right 6 h.row.stop ∷ right 8 h.leg ∷ right 10 h.row.arrival
+row_values_text Vrp h much late = form (codes "@ @ @ @@@\n") (right 5 h.row.place ∷ right 6 h.row.stop ∷ right 8 h.leg
     ∷ right_signed 9 h.row.load ∷ text_if (codes "  overload") much ∷ text_if (codes "  late") late ∷ [])
 
+-- the row of a visit, with a mark if the load exceeds the capacity, and one if the start is after the latest
+-- start allowed
 abbrev pub row_text : Instance → StopVisit → List ℕ
 row_text p h = row_values_text p.kind h (is_overload p h.row.load) (is_late p h.row.start h.row.latest)
 
+-- the table of a route: the heading, and a row for each place and for the return
 abbrev pub table_text : Instance → List ℕ → List ℕ
 table_text p route = heading p.kind ++ flat_map (row_text p) (stop_visits_of p route)
 
--- A row without times. If a stop is unknown or appears twice, the schedule is not known.
+-- A row without times, for stop n at place k. It is used if a stop is unknown or appears twice, since the
+-- schedule is not known then.
 abbrev pub stop_row : ℕ → ℕ → List ℕ
 stop_row k n = form (codes "@ @\n") (right 5 k ∷ right 6 n ∷ [])
 
+-- a row without times for each stop of a route; the first stop is at place k
 abbrev pub stop_rows : ℕ → List ℕ → List ℕ
 stop_rows k [] = []
 stop_rows k (n ∷ route) = stop_row k n ++ stop_rows (k + 1) route
 
+-- the table of a route without times, under this heading
 unfoldable pub stops_table : List ℕ → List ℕ → List ℕ
 stops_table title route = title ++ stop_rows 1 route

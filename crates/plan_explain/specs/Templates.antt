@@ -1,4 +1,5 @@
--- Templates with values in them.
+-- Templates in which each `@` is replaced by a value, and the names of fields, keys and lines that messages
+-- print.
 use Rattle.std.specs.Prelude.{ℕ, ◌++◌, ◌==◌, nat_lt, Bool, List, [], ◌∷◌, Option, Some, None, codes, decimal, if◌then◌else◌}
 use Rattle.std.specs.Fmt.{signed_decimal}
 use Rattle.std.specs.Option.{option_copied}
@@ -15,19 +16,21 @@ use Rattle.plan_explain.specs.Quotes.{shown_bytes}
 use Rattle.plan_explain.specs.declared.templates.Value.{Value}
 use Rattle.plan_explain.specs.declared.templates.Value.TheVariants.{At, Quote, Demand, KeyName, Left, LineName, Long, Name, RequiredValue, Number, Right, RightLong, RightSigned, Short, Signed, TextIf}
 
+-- the words if the condition holds, otherwise nothing
 abbrev pub text_if : List ℕ → Bool → List ℕ
 text_if words holds = if holds then words else []
 
--- the place of a stop
+-- the position of a stop; routes and places count from 1
 abbrev pub position_text : Option PrintedPosition → List ℕ
 position_text None = codes "in no route"
 position_text (Some s) = codes "at place " ++ decimal s.place ++ codes " of route " ++ decimal s.route
 
--- the demand of a stop
+-- the demand of a stop, or nothing if there is no stop
 abbrev pub demand_text : Option Stop → List ℕ
 demand_text None = []
 demand_text (Some s) = codes ", demand " ++ signed_decimal s.demand
 
+-- the name of a key or a section of a `.vrp` file; empty for keys that no message names
 unfoldable pub key_name : Key → List ℕ
 key_name keys.Dimension = codes "DIMENSION"
 key_name keys.Capacity = codes "CAPACITY"
@@ -38,6 +41,7 @@ key_name keys.Demands = codes "DEMAND_SECTION"
 key_name keys.Depots = codes "DEPOT_SECTION"
 key_name _ = []
 
+-- the name of a field of an instance
 unfoldable pub field_name : Field → List ℕ
 field_name fields.Fleet = codes "fleet"
 field_name fields.Capacity = codes "capacity"
@@ -59,7 +63,7 @@ field_name fields.Depot = codes "depot"
 field_name (fields.Value key) = key_name key
 field_name fields.ExtraWord = codes "a word"
 
--- the name of a line in Solomon's format: the word with which it begins, or what it has
+-- the name of a line in Solomon's format: the word with which it begins, or a description of its contents
 unfoldable pub line_name : SolomonLine → List ℕ
 line_name lines.Name = codes "the name"
 line_name lines.Vehicle = codes "VEHICLE"
@@ -70,11 +74,12 @@ line_name lines.Columns = codes "CUST"
 line_name lines.Depot = codes "customer 0, the depot,"
 line_name lines.Customer = codes "customer 0, the depot,"
 
--- the value that a key must have
+-- the only value that is supported for the key TYPE or EDGE_WEIGHT_TYPE
 unfoldable pub required_value : Key → List ℕ
 required_value keys.ProblemType = codes "CVRP"
 required_value _ = codes "EUC_2D"
 
+-- the text of a value: a number in decimal or in a column, a name, a position, or quoted bytes
 abbrev pub value_text : Value → List ℕ
 value_text (Short n) = decimal n
 value_text (Number n) = decimal n
@@ -93,21 +98,21 @@ value_text (LineName line) = line_name line
 value_text (RequiredValue key) = required_value key
 value_text (Demand stop) = demand_text (option_copied stop)
 
--- a byte of a template, which is ASCII
+-- the byte of a template as it is printed: `?` if it is not ASCII
 abbrev pub plain_byte : ℕ → ℕ
 plain_byte b = if nat_lt b 128 then b else 63
 
--- a byte of a template, or the first of the values if the byte is @
+-- the text of a byte of a template: the next value for `@`, or nothing if no value is left
 abbrev pub next_text : ℕ → List (List ℕ) → List ℕ
 next_text b [] = if b == 64 then [] else plain_byte b ∷ []
 next_text b (value ∷ values) = if b == 64 then value else plain_byte b ∷ []
 
--- the remaining values after this byte
+-- the values that are left after this byte of a template
 abbrev pub left : ℕ → List (List ℕ) → List (List ℕ)
 left b [] = []
 left b (value ∷ values) = if b == 64 then values else value ∷ values
 
--- a template with the next of the values in place of each @
+-- the text of a template, in which the values replace the `@` in order
 abbrev pub form : List ℕ → List (List ℕ) → List ℕ
 form [] values = []
 form (b ∷ words) values = next_text b values ++ form words (left b values)

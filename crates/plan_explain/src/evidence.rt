@@ -43,7 +43,7 @@ pub(crate) fn put_evidence(text: &mut TextBuffer, kind: ReadFaultKind, evidence:
     }
 }
 
-// Appends the details of a line in Solomon's format.
+// Appends the details of a fault in a file in Solomon's format.
 fn put_customer(text: &mut TextBuffer, evidence: Evidence<'_>)
     ensures { text.new ≡ text.old ++ customer_text evidence.entry }
 {
@@ -88,7 +88,7 @@ fn put_word(
     }
 }
 
-// Appends why a word is wrong: its fraction, or the limits that it exceeds.
+// Appends why a word is wrong: it has a fraction, or it is outside these limits.
 fn put_reason(text: &mut TextBuffer, kind: ReadFaultKind, word: &[u8], limits: Option<Limits>)
     ensures { text.new ≡ text.old ++ reason_text kind word.now limits }
 {
@@ -102,7 +102,7 @@ fn put_reason(text: &mut TextBuffer, kind: ReadFaultKind, word: &[u8], limits: O
     }
 }
 
-// Appends the number without its limit, since the text of the kind already has the limit.
+// Appends the number without its limit, since the description of the kind already names the limit.
 fn put_too_many(text: &mut TextBuffer, field: Field, word: &[u8])
     ensures { text.new ≡ text.old ++ too_many_text word.now field }
 {
@@ -113,7 +113,7 @@ fn put_too_many(text: &mut TextBuffer, field: Field, word: &[u8])
     }
 }
 
-// Appends the details of a task and the task that it names.
+// Appends why a task is not half of a pair.
 fn put_pair(text: &mut TextBuffer, evidence: Evidence<'_>)
     ensures { text.new ≡ text.old ++ pair_text evidence.entry }
 {
@@ -152,8 +152,8 @@ fn put_pair(text: &mut TextBuffer, evidence: Evidence<'_>)
     }
 }
 
-// Returns the words for two demands. A negative demand of a pickup is wrong in any case; otherwise the sum of
-// both is wrong.
+// Returns the words for a pair whose demands do not match: the pickup's demand is negative, or else the sum of
+// both is not 0.
 fn demand_fault_text(is_negative: bool) -> &'static str
     ensures { result.now ≡ demand_fault_text is_negative }
 {
@@ -164,7 +164,7 @@ fn demand_fault_text(is_negative: bool) -> &'static str
     }
 }
 
-// Appends the details of a fault of keys or sections.
+// Appends the details of a fault of a key or a section.
 fn put_key(text: &mut TextBuffer, evidence: Evidence<'_>)
     ensures { text.new ≡ text.old ++ key_text evidence.entry }
 {
@@ -204,7 +204,7 @@ fn put_key(text: &mut TextBuffer, evidence: Evidence<'_>)
     }
 }
 
-// Appends the keys that no line has.
+// Appends the missing keys.
 fn put_missing(text: &mut TextBuffer, keys: &[Option<Key>])
     ensures { text.new ≡ text.old ++ missing_text keys.now }
 {

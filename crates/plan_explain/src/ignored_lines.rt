@@ -10,9 +10,10 @@ use instance_read::{Format, Layout, split_key};
 use sol_text::cost_word;
 use text_lines::{Lines, is_blank_line};
 
-/// Returns the number of the first line whose key names a limit that this project ignores: on vehicles, or on
-/// the length of a route. Lines count from 1. Returns `None` for a Li-Lim instance and for one in
-/// Solomon's format, which have no keys. Source: keys of LKH, and of extensions of TSPLIB.
+/// Returns the number of the first line before `EOF` whose key sets a limit that this project ignores. Such a
+/// limit is on the number of vehicles, or on the length, the stops or the risk of a route. Lines count from 1.
+/// Returns `None` for a Li-Lim instance and for one in Solomon's format, which have no keys. Source: keys of
+/// LKH, and of extensions of TSPLIB.
 pub fn ignored_limit_line(format: Format, text: &[u8]) -> Option<u64>
     ensures { result ≡ ignored_limit_line format text.now }
 {
@@ -52,7 +53,7 @@ fn is_limit(key: &[u8]) -> bool
         || key.eq_ignore_ascii_case(b"RISK_THRESHOLD")
 }
 
-/// Returns the number of the first line after the cost line that has more than blanks and tabs, or `None` if
+/// Returns the number of the first line after the cost line that has more than spaces and tabs, or `None` if
 /// there is none. Lines count from 1. The reader of solutions ignores that line.
 pub fn line_after_cost(text: &[u8]) -> Option<u64>
     ensures { result ≡ line_after_cost text.now }
@@ -72,9 +73,9 @@ pub fn line_after_cost(text: &[u8]) -> Option<u64>
     None
 }
 
-/// States that the reader of solutions ends at the first cost line: if two files have the same lines up to
-/// there, they are the same solution or have the same first fault. The line that `line_after_cost` returns is
-/// after the cost line.
+/// States that the reader of solutions ends at the first cost line. If two files have the same lines up to and
+/// including it, they spell the same solution or have the same first fault. The line that `line_after_cost`
+/// returns is after that cost line, so the reader ignores it.
 pub fn reading_ends_at_the_cost_line()
     ensures ends { ReadingEndsAtCost }
     ensures unread { ReportedLineIsUnread }

@@ -2,17 +2,17 @@
 //!
 //! `auditor_cli` prints them for the `explain` subcommand, after the line of the audit. `explain_verdict`
 //! explains a verdict. `explain_instance_fault` and `explain_solution_fault` explain why a file is refused.
-//! `explain_distance` returns the distance of routes that can be read although the solution is refused for its
-//! cost. `rows_of`, `stop_visits_of`, `waiting_time`, `departure` and `summary_of` return the values of a
-//! route; `plan_timetable` prints them too.
+//! `explain_distance` returns a line with the distance of the routes, for a solution that is refused because of
+//! its cost. `rows_of`, `stop_visits_of`, `waiting_time`, `departure` and `summary_of` return the values of a
+//! route. `plan_timetable` prints these values too.
 //!
-//! If a rule is broken, the text has a sentence with the values at the first violation, the route as a table,
-//! how often the rule is broken and where else, and how often each later rule is broken. If a stop is unknown
-//! or appears twice, the schedule is not known, so the table has only places and stops.
+//! If a rule is broken, the text has a sentence with the values at the first violation, and the route as a
+//! table. Then it says how often and where else the rule is broken, and how often each later rule is broken. If
+//! a stop is unknown or appears twice, the schedule is not known, so the table has only places and stops.
 //!
-//! If the cost is wrong, or the solution passes, the text has a line for each route and the sums. A departure
-//! is the latest one that delays no service; arrivals and waiting times are those of a vehicle that leaves at
-//! once.
+//! If the cost is wrong, or the solution passes, the text has a line for each route and the sums. A departure is
+//! the latest one that delays no service. Arrivals and waiting times are those of a vehicle that leaves each
+//! place immediately after its service.
 //!
 //! In the templates of `put_template`, `@` stands for a value.
 //!
@@ -24,16 +24,16 @@
 //! - `rows`, `stop_visits`: arrival, start, load, leg and service at each place of a route
 //! - `tables`, `summaries`: a route as a table; a line for each route, and the sums
 //! - `sentences`: the sentence on a broken rule, and the hint that all stop numbers are one too high or too low
-//! - `other_violations`: all violations of a rule (`rule_violations`), and how often each later rule is broken
+//! - `other_violations`: how many places break the rule, a list of them, and how often each later rule is broken
 //! - `verdicts`: the text for a verdict, and the distance of the routes of a refused file
 //! - `quotes`: quoted lines, words and bytes of a refused file
 //! - `evidence`, `sol_faults`: the details of an instance's fault and of a solution's fault
 //! - `refusals`: the whole text for a refused file
 //! - `ignored_lines`: limits of an instance that are ignored, and text after the cost line of a solution
 //!
-//! Proved: for every verdict on a printed solution and every fault of a file, the printed bytes are exactly
-//! those of the definitions in `specs/`. The reader of solutions ignores the line that `line_after_cost` finds.
-//! The rows, visits and summaries of a route are those of its schedule.
+//! Proved: the definitions in `specs/` say each byte of the text, for every verdict on a printed solution and
+//! every fault of a file, if memory suffices. The reader of solutions ignores the line that `line_after_cost`
+//! finds. The rows, visits and summaries of a route are those of its schedule.
 #![tactic(auto)]
 
 mod evidence;

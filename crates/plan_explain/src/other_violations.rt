@@ -1,4 +1,4 @@
-//! The number and the places of the violations of a rule, and how often each later rule is broken.
+//! The number of places that break a rule, a list of them, and how often each later rule is broken.
 ghost use Rattle.std.specs.Prelude.{◌≡◌, ◌++◌, false, All, IfOk, IsTrue, OnOk, drop};
 ghost use Rattle.std.specs.List.{flat_map};
 ghost use Rattle.route_sched.specs.Route.{AreDistinctStops};
@@ -16,10 +16,11 @@ use rule_violations::{Violation, missing_stops, schedule_is_known, violations_of
 use std::alloc::Global;
 use text_buffer::TextBuffer;
 
-/// The greatest number of other places that are listed.
+/// The greatest number of other places, or of missing stops, that are listed.
 const MAX_LISTED: usize = 20;
 
-/// Appends how often a rule is broken, and the other places.
+/// Appends how many places break the rule, and lists those after the first. For `MissingStop` it lists the stops
+/// in no route. For `Fleet`, `Pin` and `PrintedCost` it appends nothing.
 pub(crate) fn put_other_violations(
     alloc: Global,
     text: &mut TextBuffer,
@@ -87,8 +88,8 @@ fn put_other_places(text: &mut TextBuffer, found: &[Violation])
     }
 }
 
-/// The rules that are counted after an earlier broken rule: all except unknown stops, pins and the printed
-/// cost.
+/// The rules that are counted if they come after the reported rule: all except unknown stops, pins and the
+/// printed cost.
 pub(crate) static RULES: [Rule; 8] = [
     Rule::VisitedTwice,
     Rule::MissingStop,
@@ -100,7 +101,7 @@ pub(crate) static RULES: [Rule; 8] = [
     Rule::Fleet,
 ];
 
-/// Appends how often each of these rules is broken, if it comes after the rule `reported`.
+/// Appends how many places break each of these rules, for those that come after the rule `reported`.
 pub(crate) fn put_later_rules(
     alloc: Global,
     text: &mut TextBuffer,
@@ -152,8 +153,8 @@ fn put_count(text: &mut TextBuffer, rule: Rule, count: u64)
     }
 }
 
-// Returns how many places break the rule. For `MissingStop` it counts the stops in no route, for `Fleet` the
-// routes beyond the number of vehicles.
+// Returns how many places break the rule. For `MissingStop` it is the number of stops in no route, for `Fleet`
+// the number of used routes beyond the number of vehicles.
 fn count_of(
     alloc: Global,
     problem: &Problem,

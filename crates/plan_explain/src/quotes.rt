@@ -12,7 +12,7 @@ use instance_read::split_key;
 use text_buffer::TextBuffer;
 use text_lines::{Lines, leading_digits_len};
 
-/// The greatest number of bytes of a line or a word that is quoted.
+/// The number of bytes after which a quoted line or word is cut.
 const MAX_QUOTED: usize = 200;
 
 /// Returns the first `most` items, or all if there are fewer.
@@ -23,7 +23,7 @@ pub(crate) fn first_of<T>(items: &[T], most: usize) -> &[T]
     &items[..most.min(items.len())]
 }
 
-/// Returns the line with this number, counted from 1.
+/// Returns the line with this number, counted from 1, or `None` if the text has no such line.
 pub(crate) fn line_at(text: &[u8], number: u64) -> Option<&[u8]>
     ensures { option_copied result ≡ item_at (lines_of text.now) number }
 {
@@ -33,14 +33,14 @@ pub(crate) fn line_at(text: &[u8], number: u64) -> Option<&[u8]>
     Lines::new(text).nth(number as usize - 1)
 }
 
-/// Returns whether a line has this key, in any letter case.
+/// Returns whether the key of a line, the part before the colon, is this key in any letter case.
 pub(crate) fn is_key(key: &[u8], line: &[u8]) -> bool
     ensures { result ≡ is_key key.now line.now }
 {
     split_key(line).0.eq_ignore_ascii_case(key)
 }
 
-/// Appends the bytes, at most `MAX_QUOTED` of them.
+/// Appends at most `MAX_QUOTED` of the bytes, with `?` for each byte that is neither printable ASCII nor a tab.
 pub(crate) fn put_quoted(text: &mut TextBuffer, bytes: &[u8])
     ensures { text.new ≡ text.old ++ shown_bytes bytes.now }
 {
@@ -65,8 +65,8 @@ fn shown_byte(byte: u8) -> u8
     }
 }
 
-/// Returns whether a word is a number except for its fraction: a sign or none, digits or none, a point, and at
-/// least one digit.
+/// Returns whether a word is a decimal fraction: a sign or none, digits or none, a point, and at least one
+/// digit.
 pub(crate) fn is_fraction(word: &[u8]) -> bool
     ensures { result ≡ is_fraction word.now }
 {

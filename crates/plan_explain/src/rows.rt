@@ -1,8 +1,10 @@
 //! The times, the window and the load at a place of a route.
 
-/// A place of a route, counted from 1, or the return to the depot after the last stop.
+/// A row of a route's table: a stop or the return to the depot, with its times, window and load. Times are in
+/// the problem's unit, loads in the unit of its demands.
 #[derive(Clone, Copy, Debug, PartialEq, Eq)]
 pub struct Row {
+    /// The place, counted from 1. The return has the place after the last stop.
     pub place: u64,
     /// The number of the stop; 0 is the depot.
     pub stop: u32,
@@ -10,7 +12,7 @@ pub struct Row {
     pub arrival: u64,
     /// The time when service starts.
     pub start: u64,
-    /// The window: service may start from `earliest` to `latest`.
+    /// The time window: service may start from `earliest` to `latest`.
     pub earliest: u32,
     pub latest: u32,
     /// The load after the stop.

@@ -12,8 +12,8 @@ use route_sched::{total_distance, used_count};
 use rule_violations::{first_position, visit_after};
 use text_buffer::TextBuffer;
 
-/// Appends that a stop belongs to no request. If every number seems to be one too high or too low, appends that
-/// too.
+/// Appends that a stop belongs to no request, with a hint if all stop numbers seem to be one too high or too
+/// low.
 pub(crate) fn put_unknown(text: &mut TextBuffer, problem: &Problem, routes: &[Route], stop: u32)
     ensures { text.new ≡ text.old ++ unknown_sentence problem.now routes.now stop }
 {
@@ -32,14 +32,14 @@ fn put_unknown_stop(text: &mut TextBuffer, problem: &Problem, stop: u32)
     put_template(text, words, &[Short(stop), Short(problem.next_number)]);
 }
 
-/// A shift of all stop numbers by one.
+/// A systematic error in a solution: all stop numbers are one too high or too low.
 #[derive(Clone, Copy)]
 pub(crate) enum Shift {
     TooHigh,
     TooLow,
 }
 
-// Appends that all numbers seem to be one too high, or one too low, if they do.
+// Appends a hint if all stop numbers seem to be one too high, or else one too low.
 fn put_shift(text: &mut TextBuffer, problem: &Problem, routes: &[Route])
     ensures { text.new ≡ text.old ++ shift_text problem.now routes.now }
 {
@@ -52,7 +52,7 @@ fn put_shift(text: &mut TextBuffer, problem: &Problem, routes: &[Route])
     }
 }
 
-// Returns whether some stop is still unknown after its number is corrected by one.
+// Returns whether some stop of the routes is still unknown after its number is corrected by one.
 fn any_unknown_shifted(problem: &Problem, shift: Shift, routes: &[Route]) -> bool
     ensures { result ≡ any_unknown_shifted problem.now shift routes.now }
 {
@@ -82,7 +82,7 @@ fn is_unknown_one_lower(problem: &Problem, stop: u32) -> bool
     problem.stop(stop.saturating_sub(1)).is_none()
 }
 
-/// Appends words on a stop and the place where it first appears.
+/// Appends a template with the number of a stop and its first position.
 pub(crate) fn put_stop(text: &mut TextBuffer, words: &str, routes: &[Route], stop: u32)
     ensures { text.new ≡ text.old ++ stop_sentence words.now routes.now stop }
 {
@@ -93,7 +93,8 @@ pub(crate) fn put_stop(text: &mut TextBuffer, words: &str, routes: &[Route], sto
     );
 }
 
-/// Appends words on a stop and its first place, and the place of the other stop of its pair.
+/// Appends a template with a stop and its first position, and then the first position of the other stop of its
+/// pair.
 pub(crate) fn put_pair(
     text: &mut TextBuffer,
     words: &str,
@@ -108,7 +109,7 @@ pub(crate) fn put_pair(
     put_second_stop(text, words, routes, problem.partner_of(stop));
 }
 
-/// Appends words on a delivery and its first place, and the place of its pickup.
+/// Appends a template with a delivery and its first position, and then the first position of its pickup.
 pub(crate) fn put_delivery_first(
     text: &mut TextBuffer,
     words: &str,
@@ -123,7 +124,7 @@ pub(crate) fn put_delivery_first(
     put_second_stop(text, words, routes, problem.pickup_of(stop));
 }
 
-// Appends words on another stop and its place, if there is one.
+// Appends a template with this stop and its first position, if there is a stop.
 fn put_second_stop(text: &mut TextBuffer, words: &str, routes: &[Route], stop: Option<u32>)
     ensures { text.new ≡ text.old ++ second_stop_text words.now routes.now stop }
 {
@@ -132,7 +133,7 @@ fn put_second_stop(text: &mut TextBuffer, words: &str, routes: &[Route], stop: O
     }
 }
 
-/// Appends the load after the place of this row, and the capacity.
+/// Appends the load after the place of this row, and the capacity. Without a row it appends nothing.
 pub(crate) fn put_overload(text: &mut TextBuffer, problem: &Problem, row: Option<Row>)
     ensures { text.new ≡ text.old ++ load_sentence problem.now row }
 {
@@ -151,7 +152,8 @@ fn put_load(text: &mut TextBuffer, words: &str, problem: &Problem, row: &Row)
     put_template(text, words, &values);
 }
 
-/// Appends the start of service at the place of this row, and the latest start allowed at this place.
+/// Appends the start of service at the place of this row, and the latest start allowed there. Without a row it
+/// appends nothing.
 pub(crate) fn put_late(text: &mut TextBuffer, row: Option<Row>)
     ensures { text.new ≡ text.old ++ late_sentence row }
 {
@@ -161,7 +163,7 @@ pub(crate) fn put_late(text: &mut TextBuffer, row: Option<Row>)
     }
 }
 
-/// Appends the time when the vehicle is back, and the latest time of the depot.
+/// Appends the last stop, the time when the vehicle is back, and the latest time of the depot.
 #[tactic(auto, unfolding(crate::specs::Sentences::return_sentence))]
 pub(crate) fn put_late_return(text: &mut TextBuffer, problem: &Problem, route: &[u32])
     requires { AreDistinctStops problem.now route.now }
@@ -170,12 +172,12 @@ pub(crate) fn put_late_return(text: &mut TextBuffer, problem: &Problem, route: &
     let back = visit_after(problem, route, route.len()).start;
     let latest = problem.depot.latest;
     let words = "late return: after stop @ the vehicle is back at @, latest @: late by @";
-    // An empty route has no last stop.
+    // An empty route has no last stop, and breaks no rule on the return.
     let last = route.last().copied().unwrap_or(0);
     put_lateness(text, words, last, back, latest);
 }
 
-// Appends a stop, a time, the latest time allowed, and the difference.
+// Appends a template with a stop, a time, the latest time allowed, and the difference.
 fn put_lateness(text: &mut TextBuffer, words: &str, stop: u32, start: u64, latest: u32)
     ensures { text.new ≡ text.old ++ late_text words.now stop start latest }
 {

@@ -15,7 +15,7 @@ use sol_text::{SolFault, SolFaultKind, cost_tail};
 use text_buffer::TextBuffer;
 use text_lines::{Words, digits_to_u32, word_count};
 
-/// Appends the details of the line that the fault names.
+/// Appends the details of a fault, from the line that it names.
 pub(crate) fn put_sol_detail(text: &mut TextBuffer, solution: &[u8], fault: SolFault)
     ensures { text.new ≡ text.old ++ sol_detail solution.now fault.line fault.kind }
 {
@@ -28,7 +28,7 @@ pub(crate) fn put_sol_detail(text: &mut TextBuffer, solution: &[u8], fault: SolF
     }
 }
 
-// Appends how many words follow `Cost`, or advice on another line that is not allowed.
+// Appends how many words follow `Cost`. If the line does not begin with `Cost`, appends advice on such a line.
 fn put_bad_line(text: &mut TextBuffer, line: &[u8])
     ensures { text.new ≡ text.old ++ bad_line_text line.now (cost_tail line.now) }
 {
@@ -55,7 +55,7 @@ fn put_other_line(text: &mut TextBuffer, line: &[u8])
     }
 }
 
-// Returns whether blanks precede the first word of a route line or a cost line.
+// Returns whether blanks precede the word with which a route line or a cost line begins.
 fn is_indented(line: &[u8]) -> bool
     ensures { result ≡ is_indented line.now }
 {
@@ -70,7 +70,8 @@ fn is_line_keyword(word: &[u8]) -> bool
         || word.eq_ignore_ascii_case(b"cost:")
 }
 
-// Returns whether the line has a colon, and no digit and no `#` before it.
+// Returns whether the line has a colon, and neither a digit nor `#` before it. Such a line is taken for a key
+// and its value.
 fn is_key_line(line: &[u8]) -> bool
     ensures { result ≡ is_key_line line.now }
 {
@@ -123,7 +124,7 @@ fn put_bad_customer(text: &mut TextBuffer, word: Option<&[u8]>)
     }
 }
 
-// Returns the first word that is not the number of a customer.
+// Returns the first word that is not the number of a customer, which is digits only and at most 4,294,967,295.
 #[tactic(auto, unfolding(sol_text::specs::Values::customer_of))]
 fn first_bad_customer(tail: &[u8]) -> Option<&[u8]>
     ensures { option_copied result ≡ find is_bad_customer (words_of tail.now) }

@@ -8,11 +8,12 @@ use plan_types::{OutOfMemory, Problem};
 use route_sched::{Visit, Visits};
 use std::alloc::Global;
 
-/// A visit to a place of a route, with the leg to it and the service.
+/// A visit to a place of a route, with the leg to it and the service. Distances and times are in the problem's
+/// unit.
 #[derive(Clone, Copy, Debug, PartialEq, Eq)]
 pub struct StopVisit {
     pub row: Row,
-    /// The distance from the place before, which is also the travel time.
+    /// The distance from the previous place, which is also the travel time.
     pub leg: u32,
     /// The duration of service.
     pub service: u32,
@@ -48,7 +49,7 @@ pub fn stop_visits_of(
     Ok(stop_visits)
 }
 
-// Returns the visit at the place after `place`, from the visit before it.
+// Returns the visit at place `place + 1`. Its arrival is computed from `last`, the visit at place `place`.
 fn stop_visit(place: usize, last: &Visit, visit: &Visit) -> StopVisit
     requires place { place + 1 < 2 ^ 64 }
     requires time { last.now.start + last.now.stop.service + visit.now.leg < 2 ^ 64 }
@@ -89,8 +90,8 @@ fn rows_at(alloc: Global, visits: &[StopVisit]) -> Result<Vec<Row>, OutOfMemory>
     Ok(rows)
 }
 
-/// Returns the latest departure from the place before that delays no service: the vehicle arrives just when
-/// service starts.
+/// Returns the latest departure from the previous place that delays no service. A vehicle that leaves then
+/// arrives exactly when service starts.
 pub fn departure(visit: &StopVisit) -> u64
     ensures { result ≡ departure visit.now }
 {

@@ -13,7 +13,7 @@ use std::alloc::Global;
 use text_buffer::TextBuffer;
 
 /// Appends the table of a route: each place with the leg to it, its times, window, service and load. The return
-/// is the last row.
+/// is the last row. In a problem of kind `Vrp`, rows have no start, window and service.
 pub(crate) fn put_table(
     alloc: Global,
     text: &mut TextBuffer,
@@ -35,7 +35,7 @@ fn heading(kind: Kind) -> &'static str
     match kind {
         Kind::LiLim =>
             "place   stop      leg    arrival      start         window          service      load\n",
-        Kind::Vrp => "place   stop      leg    arrival      load\n",
+        Kind::Vrp => "place   stop      leg      load\n",
     }
 }
 
@@ -55,19 +55,18 @@ fn put_row(text: &mut TextBuffer, problem: &Problem, visit: &StopVisit)
     put_row_values(text, problem.kind, visit, much, late);
 }
 
-// Appends the values of a row, with a mark if the vehicle is overloaded and one if it is late.
+// Appends the values of a row, marked as `overload` if `much` is true and as `late` if `late` is true.
 #[tactic(auto, unfolding(crate::specs::Tables::row_values_text))]
 fn put_row_values(text: &mut TextBuffer, kind: Kind, visit: &StopVisit, much: bool, late: bool)
     ensures { text.new ≡ text.old ++ row_values_text kind visit.now much late }
 {
     let row = &visit.row;
     let (place, stop) = (Right(5, row.place), Right(6, u64::from(row.stop)));
-    let (leg, arrival) = (Right(8, u64::from(visit.leg)), Right(10, row.arrival));
-    let load = RightSigned(9, row.load);
+    let (leg, load) = (Right(8, u64::from(visit.leg)), RightSigned(9, row.load));
     let (much, late) = (TextIf("  overload", much), TextIf("  late", late));
     match kind {
         Kind::LiLim => {
-            let start = Right(10, row.start);
+            let (arrival, start) = (Right(10, row.arrival), Right(10, row.start));
             let earliest = Right(10, u64::from(row.earliest));
             let latest = Left(10, u64::from(row.latest));
             let service = Right(8, u64::from(visit.service));
@@ -77,13 +76,13 @@ fn put_row_values(text: &mut TextBuffer, kind: Kind, visit: &StopVisit, much: bo
             put_template(text, "@ @ @ @ @ @..@ @ @@@\n", &values)
         }
         Kind::Vrp => {
-            let values = [place, stop, leg, arrival, load, much, late];
-            put_template(text, "@ @ @ @ @@@\n", &values)
+            let values = [place, stop, leg, load, much, late];
+            put_template(text, "@ @ @ @@@\n", &values)
         }
     }
 }
 
-/// Appends the places of a route with their stops, without times, under this heading.
+/// Appends this heading, and the places of a route with their stops but without times.
 #[tactic(auto, unfolding(crate::specs::Tables::stops_table))]
 pub(crate) fn put_stops(text: &mut TextBuffer, heading: &str, route: &[u32])
     ensures { text.new ≡ text.old ++ stops_table heading.now route.now }

@@ -1,4 +1,4 @@
-//! Templates with values in them, and the names of the fields and keys of instances.
+//! Templates in which each `@` is replaced by a value, and the names of the fields, keys and lines of instances.
 ghost use Rattle.std.specs.Prelude.{◌≡◌, ◌<◌, ◌++◌, map};
 ghost use Rattle.std.specs.Option.{option_copied};
 ghost use Rattle.plan_explain.specs.Templates.{demand_text, field_name, form, key_name, left, line_name, next_text, plain_byte, position_text, required_value, text_if, value_text};
@@ -16,15 +16,16 @@ pub(crate) enum Value<'a> {
     Number(u64),
     Long(u128),
     Signed(i64),
-    /// A number at the right of a column of this width; `Left` has it at the left.
+    /// A number, right-aligned in a column of this width. `Left` is left-aligned.
     Right(usize, u64),
     RightLong(usize, u128),
     RightSigned(usize, i64),
     Left(usize, u64),
+    /// These words if the condition holds, otherwise nothing.
     TextIf(&'a str, bool),
-    /// The place of a stop.
+    /// The route and place of a stop, or the words for a stop in no route.
     At(Option<PrintedPosition>),
-    /// Bytes of the file.
+    /// Bytes of the file, as `put_quoted` appends them.
     Quote(&'a [u8]),
     Name(Field),
     KeyName(Key),
@@ -35,7 +36,7 @@ pub(crate) enum Value<'a> {
     Demand(Option<&'a Stop>),
 }
 
-/// Appends a template of ASCII characters. Each `@` is replaced by the next of the values.
+/// Appends a template of ASCII characters, with each `@` replaced by the next value.
 pub(crate) fn put_template(text: &mut TextBuffer, words: &str, values: &[Value<'_>])
     ensures { text.new ≡ text.old ++ form words.now (map value_text values.now) }
 {
@@ -122,7 +123,7 @@ fn put_demand(text: &mut TextBuffer, stop: Option<&Stop>)
     }
 }
 
-// Returns the name of a field.
+// Returns the name of a field, as messages print it.
 #[tactic(auto, unfolding(crate::specs::Templates::field_name))]
 fn field_name(field: Field) -> &'static str
     ensures { result.now ≡ field_name field }
@@ -149,7 +150,7 @@ fn field_name(field: Field) -> &'static str
     }
 }
 
-// Returns the name of a key or a section.
+// Returns the name of a key or a section, as messages print it.
 #[tactic(auto, unfolding(crate::specs::Templates::key_name))]
 fn key_name(key: Key) -> &'static str
     ensures { result.now ≡ key_name key }
@@ -166,7 +167,8 @@ fn key_name(key: Key) -> &'static str
     }
 }
 
-// Returns the name of a line in Solomon's format: the word with which it begins, or what it has.
+// Returns the name of a line in Solomon's format: the word with which it begins, or a description of its
+// contents.
 #[tactic(auto, unfolding(crate::specs::Templates::line_name))]
 fn line_name(line: SolomonLine) -> &'static str
     ensures { result.now ≡ line_name line }
@@ -182,7 +184,7 @@ fn line_name(line: SolomonLine) -> &'static str
     }
 }
 
-// Returns the value that a key must have.
+// Returns the only value that is supported for a key.
 #[tactic(auto, unfolding(crate::specs::Templates::required_value))]
 fn required_value(key: Key) -> &'static str
     ensures { result.now ≡ required_value key }

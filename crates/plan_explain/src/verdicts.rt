@@ -1,4 +1,5 @@
-//! The text for a verdict, and the distance of routes whose solution is refused for its cost.
+//! The text for a verdict, and the line with the distance of routes whose solution is refused because of its
+//! cost.
 ghost use Rattle.std.specs.Prelude.{◌≡◌, ◌++◌, ℕ, All, IfOk, IsTrue, OnOk, string_bytes};
 ghost use Rattle.route_sched.specs.Route.{AreDistinctStops};
 ghost use Rattle.plan_audit.specs.Verdict.{IsVerdict, printed};
@@ -22,12 +23,12 @@ use sol_text::Solution;
 use std::alloc::Global;
 use text_buffer::TextBuffer;
 
-/// Returns the explanation of a verdict, in whole lines. For a broken rule it is a sentence with its values,
-/// and the route of the violation place by place. For a solution that passes it is a line for each route, and
-/// the sums.
+/// Returns the explanation of a verdict, in whole lines. For a broken rule it has a sentence with the values at
+/// the first violation, the route place by place, and the numbers of other violations. For a solution that
+/// passes it has a line for each route, and the sums.
 ///
-/// The caller may pass the verdict on the same routes with another printed cost. If the cost is wrong, the text
-/// shows the solution's own.
+/// `verdict` may be the verdict on the same routes with another printed cost. If it reports a wrong cost, the
+/// text shows the cost of `solution`.
 pub fn explain_verdict(
     alloc: Global,
     problem: &Problem,
@@ -78,7 +79,8 @@ fn put_verdict(
     }
 }
 
-/// The first violation of a verdict, and the printed cost; routes and places count from 1.
+/// The first violation of a verdict, and the printed cost. Routes and places count from 1, and are 0 if the
+/// violation has none.
 #[derive(Clone, Copy)]
 pub(crate) struct Fault {
     pub rule: Rule,
@@ -147,7 +149,8 @@ fn put_sentence(
     Ok(())
 }
 
-// Appends the routes that the broken rule needs: the route of the violation, or all of them for a wrong cost.
+// Appends the routes that explain the violation: its own route as a table, or for a wrong cost a line for each
+// route.
 fn put_shown(
     alloc: Global,
     text: &mut TextBuffer,
@@ -165,7 +168,8 @@ fn put_shown(
     }
 }
 
-// Appends the route of the violation.
+// Appends the route of the violation as a table, without times if the schedule is not known. Route 0 means that
+// the violation has no route.
 fn put_route_shown(
     alloc: Global,
     text: &mut TextBuffer,
@@ -189,7 +193,8 @@ fn put_route_shown(
     }
 }
 
-// Returns the stops of a route, counted from 1; route 0 has none.
+// Returns the stops of the route with this number, counted from 1. If there is no such route, there are no
+// stops.
 fn reported_route(routes: &[Route], route: u64) -> &[u32]
     ensures { result.now ≡ reported_route routes.now route }
 {
@@ -202,7 +207,7 @@ fn reported_route(routes: &[Route], route: u64) -> &[u32]
     }
 }
 
-// Returns the row of a place of a route, counted from 1.
+// Returns the row at this place of a route, counted from 1, or `None` if the route has no such place.
 fn reported_row(
     alloc: Global,
     problem: &Problem,
@@ -219,9 +224,9 @@ fn reported_row(
     Ok(rows.as_slice().get(place as usize - 1).copied())
 }
 
-/// Returns a line with the distance of the routes, in the problem's unit. Returns no line if a stop is unknown
-/// or appears twice, since the distance is not known then. The verdict is the one on these routes, with any
-/// printed cost.
+/// Returns a line with the distance of the routes, in the problem's unit. Returns an empty text if a stop is
+/// unknown or appears twice, since the distance is not known then. `verdict` is the verdict on these routes with
+/// any printed cost.
 pub fn explain_distance(
     alloc: Global,
     problem: &Problem,
@@ -248,7 +253,7 @@ fn put_distance(text: &mut TextBuffer, problem: &Problem, routes: &[Route], verd
     }
 }
 
-/// Returns whether no stop is unknown or appears twice in routes with this verdict, so that their schedule is
+/// Returns whether routes with this verdict have no unknown stop and no stop twice, so that their schedule is
 /// known.
 pub fn verdict_schedule_is_known(verdict: Verdict) -> bool
     ensures { result ≡ verdict_schedule_is_known verdict }

@@ -1,4 +1,4 @@
--- Lemmas about sequences of operations, and about the progress lines between them
+-- Lemmas about sequences of operations, and about the progress lines between them.
 use Rattle.std.proofs.Common.{◌≡◌, ◌∙◌, ℕ, suc, ◌<◌, true, List, [], ◌∷◌, ◌++◌, length, Option, refl, sym, ap, subst, arith, append_assoc, append-nil}
 use Rattle.std.specs.Prelude.{max}
 use Rattle.std.specs.Io.KnownBytes.{Appends}
@@ -21,8 +21,9 @@ use Rattle.plan_solve.specs.ProgressState.{HasMade}
 use Rattle.plan_solve.specs.declared.annealing.ProgressState.{ProgressState}
 use Rattle.plan_solve.proofs.SearchLemmas.{same_job}
 
--- The state after some operations: the remaining ones lead from the planner's job to the result of all. The
--- lines so far and the remaining ones make up the progress lines, and they are written unless one could not be.
+-- The loop of annealing after some operations: the remaining ones lead from the planner's job to the result of
+-- all. The lines so far and the remaining ones make up the progress lines, and they are written unless one could
+-- not be.
 pub record IsAnnealing (begun : JobValue) (steps : ℕ) (before now : Option (List ℕ)) (reported : ProgressState) (planner : State) (left : StepCursor) : Type 0 where
   pub job : JobValue
   pub is : planner ≡ Loaded job
@@ -84,7 +85,7 @@ module _ (begun : JobValue) (steps : ℕ) (before : Option (List ℕ)) where
     written = λ t. subst (Appends before now) (sym (append-nil h.lines) ∙ ap (λ cs. h.lines ++ lines_after steps reported.parts h.job cs) (sym none) ∙ h.whole) (h.written t);
   }
 
--- ---- laws
+-- ---- Laws
 
 pub after_all : (cs : List Command) (j : JobValue) → after (Loaded j) cs ≡ Loaded (final_job j cs)
 after_all [] j = refl

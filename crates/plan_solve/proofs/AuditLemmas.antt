@@ -1,4 +1,4 @@
--- The result of `solve` passes the audit
+-- The result of `solve` passes the audit.
 use Rattle.std.proofs.Common.{◌≡◌, ◌∙◌, ◌<◌, ◌^◌, ℕ, true, List, [], ◌∷◌, Option, Some, None, refl, sym, ap, subst, inl, inr, arith}
 use Rattle.std.specs.List.{list_all}
 use Rattle.std.proofs.lemmas.Bool.{and_parts, cases_Bool}
@@ -27,7 +27,7 @@ use Rattle.plan_solve.specs.AuditLaw.{SolutionsPassAudit}
 use Rattle.plan_solve.specs.Solved.{annealed, begun, commands_from, deviation_of, final_job, solved, solved_from}
 use Rattle.plan_solve.proofs.AnnealLemmas.{after_all}
 
--- If no name is left out, no request is
+-- If no name is left out, no request is.
 none_left : (p : Instance) (routes : List (List ℕ)) (es : List (ℕ × Request)) → unplanned_names (record p { requests = es }) routes ≡ [] → unplanned_count (record p { requests = es }) routes ≡ 0
 none_left p routes [] none = refl
 none_left p routes (e ∷ es) none = elim (cases_Bool (is_planned routes e.1)) [
@@ -35,22 +35,22 @@ none_left p routes (e ∷ es) none = elim (cases_Bool (is_planned routes e.1)) [
   | inr f ↦ absurd (let h = rw f at none in cc)
 ]
 
--- ---- the job keeps the invariants of jobs, and its problem
+-- ---- The job keeps the invariants of jobs, and its problem
 
--- Commands that change no request keep the problem
+-- Commands that change no request keep the problem.
 pub problem_stays : CostsNeverRise → (cs : List Command) (j : JobValue) → AreAccepted (Loaded j) cs → list_all stays cs ≡ true → (final_job j cs).problem ≡ j.problem
 problem_stays rise [] j accepted stay = refl
 problem_stays rise (c ∷ cs) j accepted stay =
     let parts = and_parts (stays c) (list_all stays cs) stay in
     problem_stays rise cs (job_after j c) accepted.2 parts.1 ∙ (rise (Loaded j) c accepted.1 (unchanged c parts.0)).problem
 
--- The job has this problem, and its plan passes
+-- The job has this problem, and its plan passes.
 pub record Keeps (p : Instance) (j : JobValue) : Type 0 where
   pub problem : j.problem ≡ p
   pub plan : audit.passes j.problem j.pins j.plan ≡ true
 
 module _ (keeps : CommandsKeepInvariants) (many : RunsKeepInvariants) (rise : CostsNeverRise) (walks : StepsKeepPassing) (p : Instance) (seed : ℕ) (valid : IsInstance p) (fits : seed < 2 ^ 64) where
-  -- The job with the built plan satisfies the invariants of jobs
+  -- The job with the built plan satisfies the invariants of jobs.
   built_job : IsJob (begun p seed)
   built_job = keeps (Loaded (loaded p seed)) Build (keeps Empty (Load p seed) tt (valid, fits) refl) tt refl
 

@@ -1,4 +1,4 @@
--- The lemma files, for this crate only
+-- The lemma files, for this crate only.
 mod AnnealLemmas
 mod AuditLemmas
 mod SearchLemmas

@@ -1,4 +1,4 @@
--- Lemmas about consecutive searches, and about the progress lines between them
+-- Lemmas about consecutive searches, and about the progress lines between them.
 use Rattle.std.proofs.Common.{◌≡◌, ◌∙◌, ℕ, suc, ◌+◌, ◌-◌, ◌*◌, ◌<◌, ◌≤◌, Bool, true, false, List, [], ◌∷◌, ◌++◌, Option, refl, sym, ap, subst, arith, append_assoc, append-nil}
 use Rattle.std.specs.Prelude.{nat_lt, map, if◌then◌else◌}
 use Rattle.std.specs.List.{range_with_len}
@@ -55,10 +55,10 @@ marks_passed n done k less within = by (nat_lt done (twentieths n (k + 1))) refl
     by true e = absurd (omega (arith, within, ltb-true done (twentieths n (k + 1)) e))
     by false e = marks_step n done k less ∙ ap (λ (b : Bool). if b then twentieths n (k + 1) ∷ remaining_marks n (twentieths n (k + 1)) (k + 1) else remaining_marks n done (k + 1)) e
 
--- ---- the search, line by line
+-- ---- The search, line by line
 
--- The state after k parts: the planner has the job after the last mark. The lines so far and the remaining ones
--- make up the progress lines, and they are written unless one could not be.
+-- The loop of the search after k twentieths: the planner has the job after the steps of the last line. The lines
+-- so far and the remaining ones make up the progress lines, and they are written unless one could not be.
 pub record IsTelling (begun : JobValue) (steps : ℕ) (before now : Option (List ℕ)) (is_written : Bool) (planner : State) (d k : ℕ) : Type 0 where
   pub lines : List ℕ
   pub written : is_written ≡ true → Appends before now lines

@@ -1,4 +1,4 @@
--- The audit of a solution that `solve` returns
+-- The audit of a solution that `solve` returns.
 use Rattle.std.specs.Prelude.{◌≡◌, ◌<◌, ◌≤◌, ◌^◌, ℕ, List, [], Option}
 use Rattle.plan_types.specs.Instance.{Instance}
 use Rattle.route_sched.specs.Cost.{cost_of, total_length, used_count}
@@ -12,8 +12,8 @@ use Rattle.instance_read.specs.declared.formats.Format.{Format}
 use Rattle.plan_solve.specs.Solved.{IsSolved}
 use Rattle.plan_solve.specs.declared.solver.SolvedPlan.{SolvedPlan}
 
--- Both texts can be read, and the verdict is `Pass`. So the solution is sound, serves each request, uses no
--- more vehicles than there are, and prints its distance.
+-- The instance and the solution are well-formed texts, and the verdict is `Pass`. So the solution is sound,
+-- serves each request, uses no more vehicles than there are, and prints its distance.
 pub record PassesAudit (format : Format) (instance solution : List ℕ) : Type 0 where
   pub problem : Instance
   pub problem_spelled : SpellsInstance format instance problem
@@ -25,7 +25,7 @@ pub record PassesAudit (format : Format) (instance solution : List ℕ) : Type 0
   pub fleet : used_count plan.routes ≤ problem.fleet
   pub distance : plan.cost ≡ total_length problem plan.routes
 
--- Law: a result that leaves no request out passes the audit, with a deviation or without one
+-- Law: a result of `solve` that leaves no request out passes the audit, with a deviation or without one.
 abbrev pub SolutionsPassAudit : Type 0
 SolutionsPassAudit = (format : Format) (text : List ℕ) (seed steps : ℕ) (deviation : Option ℕ) (before after_it : Option (List ℕ)) (found : SolvedPlan) → seed < 2 ^ 64
     → IsSolved format text seed steps deviation before after_it found → found.unplanned.items ≡ [] → PassesAudit format text found.text.items

@@ -1,5 +1,5 @@
--- Definitions that public contracts use
+-- Definitions in public contracts.
 pub mod AuditLaw
 pub mod Solved
--- Definitions that only private functions use
+-- Definitions in the contracts of private functions.
 pub mod ProgressState

@@ -1,4 +1,4 @@
--- The facts about solving: the plan for a problem, and the progress lines that are still to be written
+-- The result of solving a problem, and of a part of its steps, with the progress lines.
 use Rattle.std.specs.Prelude.{◌≡◌, ℕ, ◌+◌, ◌-◌, Bool, true, List, map, Option}
 use Rattle.std.specs.List.{flat_map, range_with_len}
 use Rattle.std.specs.Io.KnownBytes.{Appends}
@@ -17,33 +17,34 @@ use Rattle.plan_solve.specs.declared.faults.SolveFault.TheVariants as fault
 use Rattle.plan_solve.specs.declared.solver.SolvedPlan.{SolvedPlan}
 use Rattle.plan_solve.specs.declared.progress_lines.EndedJob.{EndedJob}
 
--- The answer has the plan for the problem, and the progress lines are written unless one could not be
+-- `found` is the plan for this problem, and the progress lines are written unless one could not be.
 pub record IsFound (before now : Option (List ℕ)) (p : Instance) (seed steps : ℕ) (deviation : Option ℕ) (found : SolvedPlan) : Type 0 where
   pub plan : PrintsPlan (solved p seed steps deviation) found
   pub reported : found.is_written ≡ true → Appends before now (progress p seed steps deviation)
 
--- The fault of `solve` for a fault of the text. Running out of memory has no line
+-- The fault of `solve` for a fault of the instance, if this is its kind. Running out of memory names no line.
 abbrev pub refused_by : ReadFaultKind → ReadFault → SolveFault
 refused_by read_fault.OutOfMemory first = fault.OutOfMemory
 refused_by _ first = fault.Refused first
 
+-- The fault of `solve` for the first fault of the instance.
 abbrev pub refused : ReadFault → SolveFault
 refused first = refused_by first.kind first
 
--- The progress lines at these marks, for a search that begins with this job
+-- The progress lines after these numbers of steps, for a search that begins with this job.
 abbrev pub reported : JobValue → List ℕ → List ℕ
 reported j marks = flat_map (λ n. line (at_text (searched j n))) marks
 
--- The marks above the last one that remain after k twentieths
+-- The numbers of steps, greater than `last`, at which progress lines are still due after k twentieths.
 abbrev pub remaining_marks : ℕ → ℕ → ℕ → List ℕ
 remaining_marks steps last k = above last (map (twentieths steps) (range_with_len (k + 1) (20 - k)))
 
--- The job is this one, and the progress lines are written unless one could not be
+-- The job after the steps is this one, and the progress lines are written unless one could not be.
 pub record HasEnded (before now : Option (List ℕ)) (job : JobValue) (lines : List ℕ) (ended : EndedJob) : Type 0 where
   pub made : ended.job ≡ job
   pub reported : ended.is_written ≡ true → Appends before now lines
 
--- The planner has this job, and the progress lines are written unless one could not be
+-- The planner has this job after the steps, and the progress lines are written unless one could not be.
 pub record HasMade (before now : Option (List ℕ)) (job : JobValue) (lines : List ℕ) (planner : State) (is_written : Bool) : Type 0 where
   pub made : planner ≡ Loaded job
   pub written : is_written ≡ true → Appends before now lines

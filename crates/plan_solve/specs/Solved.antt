@@ -1,4 +1,4 @@
--- The result of solving an instance, and the progress lines
+-- The result of solving an instance, and the progress lines.
 use Rattle.std.specs.Prelude.{◌≡◌, ◌≢◌, ℕ, ◌*◌, ◌/◌, ◌<◌, ◌≤◌, ◌^◌, ◌==◌, max, min, nat_lt, true, if◌then◌else◌, List, [], ◌∷◌, ◌++◌, length, map, sum_by, Option, Some, None, ⊤}
 use Rattle.std.specs.List.{flat_map, list_all, range_with_len}
 use Rattle.std.specs.Io.KnownBytes.{Appends}
@@ -30,120 +30,126 @@ use Rattle.plan_solve.specs.declared.faults.SolveFault.{SolveFault}
 use Rattle.plan_solve.specs.declared.faults.SolveFault.TheVariants as fault
 use Rattle.plan_solve.specs.declared.solver.SolvedPlan.{SolvedPlan}
 
--- The job before the steps: the problem is loaded with the seed, and the plan is built
+-- The job before the first step: the problem is loaded with the seed, and the plan is built.
 abbrev pub begun : Instance → ℕ → JobValue
 begun p seed = built (loaded p seed)
 
--- ---- solving by the search, with a deviation
+-- ---- Solving by the search, with a deviation
 
--- The job after this many steps of the search
+-- The job after this many steps of the search with this deviation, in the unit of distance.
 abbrev pub searched_with : ℕ → JobValue → ℕ → JobValue
 searched_with deviation j steps = searched (with_deviation j deviation) steps
 
--- k twentieths of the steps, rounded down
+-- The number of steps in k twentieths of `steps`, rounded down.
 abbrev pub twentieths : ℕ → ℕ → ℕ
 twentieths steps k = k * steps / 20
 
--- The items of an ascending list, each once, that are greater than the given number
+-- The items of an ascending list that are greater than `last`, each once.
 abbrev pub above : ℕ → List ℕ → List ℕ
 above last [] = []
 above last (n ∷ ns) = if nat_lt last n then n ∷ above n ns else above last ns
 
--- The numbers of steps after which the search prints a progress line: 0, and each twentieth of the steps
+-- The numbers of steps at which the search prints a progress line: 0, and each of the twentieths of `steps`.
 unfoldable pub marks : ℕ → List ℕ
 marks steps = 0 ∷ above 0 (map (twentieths steps) (range_with_len 1 20))
 
--- The progress lines of the search: `at STEPS UNPLANNED VEHICLES DISTANCE` at each mark
+-- The progress lines of the search: `at STEPS UNPLANNED VEHICLES DISTANCE`, for the job after each of these
+-- numbers of steps.
 abbrev pub search_lines : ℕ → JobValue → ℕ → List ℕ
 search_lines deviation j steps = flat_map (λ n. line (at_text (searched_with deviation j n))) (marks steps)
 
--- ---- solving by annealing, without a deviation
+-- ---- Solving by annealing, without a deviation
 
--- The operations of the command `anneal 0 STEPS`
+-- The operations of the command `anneal 0 STEPS` on this job, in order.
 abbrev pub commands_from : JobValue → ℕ → List Command
 commands_from j steps = commands_of (makes.Stages 0 steps) (Loaded j)
 
--- The job after these operations, one by one
+-- The job after these operations, in order.
 abbrev pub final_job : JobValue → List Command → JobValue
 final_job j [] = j
 final_job j (c ∷ cs) = final_job (job_after j c) cs
 
+-- The job after `anneal 0 STEPS`.
 abbrev pub annealed : JobValue → ℕ → JobValue
 annealed j steps = final_job j (commands_from j steps)
 
--- The twentieths of the steps that the job has made, rounded down
+-- The number of twentieths of `steps` that the job has made, rounded down.
 abbrev pub twentieths_made : ℕ → JobValue → ℕ
 twentieths_made steps j = 20 * j.steps / steps
 
--- The progress line after an operation, if the job has made more twentieths than when the last line was printed
+-- The progress line after an operation; empty unless the job has made more than `parts` twentieths of `steps`,
+-- the number when the last line was printed.
 abbrev pub line_after : ℕ → ℕ → JobValue → List ℕ
 line_after steps parts j = if nat_lt parts (twentieths_made steps j) then line (at_text j) else []
 
+-- The progress lines after these operations. `parts` is the number of twentieths when the last line was printed.
 abbrev pub lines_after : ℕ → ℕ → JobValue → List Command → List ℕ
 lines_after steps parts j [] = []
 lines_after steps parts j (c ∷ cs) =
     let next = job_after j c in line_after steps parts next ++ lines_after steps (max parts (twentieths_made steps next)) next cs
 
--- The progress lines of annealing: one before the first operation, and those after the operations
+-- The progress lines of annealing: one before the first operation, and then those that are due after operations.
 abbrev pub anneal_lines : JobValue → ℕ → List ℕ
 anneal_lines j steps = line (at_text j) ++ lines_after steps 0 j (commands_from j steps)
 
--- ---- solving by the search or by annealing
+-- ---- Solving by the search or by annealing
 
--- The deviation of the search, limited to the greatest one; without a deviation the steps anneal
+-- The deviation of the search, limited to `MAX_DEVIATION`; `None` if the steps anneal.
 abbrev pub deviation_of : Option ℕ → Option ℕ
 deviation_of (Some deviation) = Some (min deviation MAX_DEVIATION)
 deviation_of None = None
 
--- The job after this many steps
+-- The job after this many steps, by the search with a deviation or by annealing without one.
 abbrev pub solved_from : JobValue → ℕ → Option ℕ → JobValue
 solved_from j steps (Some deviation) = searched_with deviation j steps
 solved_from j steps None = annealed j steps
 
+-- The job that `solve` returns: the problem is loaded with the seed, its plan built and improved by these steps.
 abbrev pub solved : Instance → ℕ → ℕ → Option ℕ → JobValue
 solved p seed steps deviation = solved_from (begun p seed) steps (deviation_of deviation)
 
--- The progress lines
+-- The progress lines of this many steps, by the search with a deviation or by annealing without one.
 abbrev pub progress_lines : JobValue → ℕ → Option ℕ → List ℕ
 progress_lines j steps (Some deviation) = search_lines deviation j steps
 progress_lines j steps None = anneal_lines j steps
 
+-- The progress lines of `solve` for this problem.
 abbrev pub progress : Instance → ℕ → ℕ → Option ℕ → List ℕ
 progress p seed steps deviation = progress_lines (begun p seed) steps (deviation_of deviation)
 
 -- Law: with a deviation, the result is the one that the operations of a store make, however the steps are split
--- into searches
+-- into searches.
 abbrev pub SolvingEqualsCommands : Type 0
 SolvingEqualsCommands = (p : Instance) (seed deviation : ℕ) (cs : List Command) → deviation ≤ MAX_DEVIATION → list_all is_searching cs ≡ true
     → after Empty (Load p seed ∷ Build ∷ Deviation deviation ∷ cs) ≡ Loaded (solved p seed (sum_by steps_of cs) (Some deviation))
 
--- Law: without a deviation, the result is the one that the operations of the command `anneal 0 STEPS` make
+-- Law: without a deviation, the result is the one that the operations of the command `anneal 0 STEPS` make.
 abbrev pub AnnealingEqualsCommands : Type 0
 AnnealingEqualsCommands = (p : Instance) (seed steps : ℕ)
     → after Empty (Load p seed ∷ Build ∷ commands_of (makes.Stages 0 steps) (Loaded (begun p seed))) ≡ Loaded (solved p seed steps None)
 
--- Law: without a deviation, the command `anneal 0 STEPS` leaves the same result, if a command may have that
--- many steps
+-- Law: without a deviation, the command `anneal 0 STEPS` makes the same job as `solve`, if a command may have
+-- that many steps.
 abbrev pub AnnealingEqualsOneCommand : Type 0
 AnnealingEqualsOneCommand = (p : Instance) (seed steps : ℕ) → steps ≤ MAX_REQUESTED_STEPS
     → state_after_steps (goal.Stages 0 steps) (after Empty (Load p seed ∷ Build ∷ [])) [] ≡ Loaded (solved p seed steps None)
 
--- ---- the answer
+-- ---- The answer
 
--- The text of a plan: a solution if no request is left out, otherwise only the route lines
+-- The text of a plan: a solution if no request is left out, and otherwise only the route lines.
 abbrev pub plan_text : JobValue → List ℕ
 plan_text j = if length (unplanned_names j.problem j.plan) == 0 then print_text j else routes_text 1 (used_routes j.plan)
 
--- The text is the plan's, and the requests that it leaves out are named. If there are none, the text reads back
--- as the plan's solution.
+-- `found` has the text of this job's plan, and the names of the requests that the plan leaves out. If it leaves
+-- none out, the text reads back as the plan's solution.
 pub record PrintsPlan (j : JobValue) (found : SolvedPlan) : Type 0 where
   pub job : found.job ≡ j
   pub text : found.text.items ≡ plan_text j
   pub unplanned : found.unplanned.items ≡ unplanned_names j.problem j.plan
   pub spells : found.unplanned.items ≡ [] → Spells found.text.items (solution_of j)
 
--- The text represents a problem, the answer has the plan for it, and the progress lines are written unless one
--- could not be
+-- The text is an instance, the result is the plan for it, and the progress lines are written unless one could not
+-- be.
 pub record IsSolved (format : Format) (text : List ℕ) (seed steps : ℕ) (deviation : Option ℕ) (before after_it : Option (List ℕ)) (found : SolvedPlan) : Type 0 where
   pub problem : Instance
   pub spelled : SpellsInstance format text problem
@@ -152,11 +158,12 @@ pub record IsSolved (format : Format) (text : List ℕ) (seed steps : ℕ) (devi
   pub plan : PrintsPlan (solved problem seed steps deviation) found
   pub reported : found.is_written ≡ true → Appends before after_it (progress problem seed steps deviation)
 
--- The first fault of the text, which is not out of memory
+-- The first fault of the instance, which is not that memory ran out.
 abbrev pub IsFirst : Format → List ℕ → ReadFault → Type 0
 IsFirst format text first = (first.kind ≢ read_fault.OutOfMemory) × IsFirstFault (InstanceFault format text) first
 
--- The fault is the first one of the text, or memory ran out, which may happen at any time
+-- The fault is the first one of the instance, and no progress line was written. Or memory ran out, which may
+-- happen at any time.
 abbrev pub Fails : Format → List ℕ → Option (List ℕ) → Option (List ℕ) → SolveFault → Type 0
 Fails format text before after_it (fault.Refused first) = IsFirst format text first × Appends before after_it []
 Fails format text before after_it fault.OutOfMemory = ⊤

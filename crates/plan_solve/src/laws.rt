@@ -15,7 +15,7 @@ pub fn solving_equals_commands()
 }
 
 /// Proves that the result without a deviation is the one that the operations of `anneal 0 STEPS` make after
-/// `load` and `build`, and that the command `anneal 0 STEPS` leaves the same.
+/// `load` and `build`, and that the command `anneal 0 STEPS` itself makes this job.
 pub fn annealing_equals_commands()
     ensures commands { AnnealingEqualsCommands }
     ensures line { AnnealingEqualsOneCommand }

@@ -2,10 +2,10 @@
 ghost use Rattle.std.specs.Prelude.{◌≡◌, ◌≤◌};
 ghost use Rattle.plan_solve.specs.Solved.{twentieths};
 
-/// The number of parts into which progress lines divide the steps.
+/// The number of parts into which the progress lines divide the steps.
 pub(crate) const TWENTIETHS: u32 = 20;
 
-/// Returns `parts` twentieths of the steps, rounded down.
+/// Returns the number of steps in this many twentieths of them, rounded down.
 pub(crate) fn twentieths(steps: u32, parts: u32) -> u32
     requires { parts ≤ 20 }
     ensures { result ≡ twentieths steps parts }

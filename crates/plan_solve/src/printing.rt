@@ -13,7 +13,7 @@ use plan_types::OutOfMemory;
 use sol_text::{write_routes, write_sol};
 use std::alloc::{AllocError, Global};
 
-/// Returns the answer for a job's plan.
+/// Returns the plan of the job as text, with the requests that it leaves out.
 pub(crate) fn answer(alloc: Global, ended: EndedJob) -> Result<SolvedPlan, OutOfMemory>
     ensures plan { IfOk result (PrintsPlan ended.job) }
     ensures reported { IfOk result (λ solved. solved.is_written ≡ ended.is_written) }
@@ -27,7 +27,8 @@ pub(crate) fn answer(alloc: Global, ended: EndedJob) -> Result<SolvedPlan, OutOf
     })
 }
 
-// The text of a plan. A function of its own makes it, so that an early return there has no job to drop.
+// A plan as text, without its job. A function of its own makes it, so that an early return there has no job to
+// drop.
 #[derive(Drop)]
 struct PrintedPlan {
     text: Vec<u8>,

@@ -1,4 +1,4 @@
-//! The search, with a progress line before its steps and at each twentieth of them.
+//! The search, with a progress line before its first step and after each twentieth of the steps.
 ghost use Rattle.std.specs.Prelude.{◌≡◌, IfOk, OnOk};
 ghost use Rattle.command_core.specs.Effects.{effect, searched};
 ghost use Rattle.plan_solve.specs.Solved.{marks, search_lines, searched_with};
@@ -6,7 +6,7 @@ ghost use Rattle.plan_solve.specs.ProgressState.{HasMade, HasEnded, reported};
 ghost use Rattle.command_types.specs.Job.{JobValue};
 ghost use Rattle.command_types.specs.declared.states.State.TheVariants.{Loaded};
 
-use crate::execute::{execute, job_of};
+use crate::execute::{execute, incumbent_of};
 use crate::marks::{TWENTIETHS, twentieths};
 use crate::progress_lines::{EndedJob, write_progress};
 use command_core::{Command, Job, Planner, State, searches_add_up};
@@ -15,7 +15,7 @@ use plan_types::OutOfMemory;
 use std::alloc::Global;
 use std::io::Write;
 
-/// Makes this many steps of the search with this deviation, in the unit of distance.
+/// Makes this many steps of the search with this deviation, which is in the unit of distance.
 pub(crate) fn search_with_progress<W: Write>(
     alloc: Global,
     begun: Job,
@@ -62,7 +62,8 @@ fn search_parts<W: Write>(
         (searched begun steps) (reported begun (marks steps)) planner.new is_written) }
 {
     searches_add_up();
-    let mut is_written = write_progress(true, job_of(planner)?, progress);
+    let (job, cost) = incumbent_of(planner)?;
+    let mut is_written = write_progress(true, job, cost, progress);
     let mut done = 0;
     let mut parts = 0;
     while parts < TWENTIETHS {
@@ -70,14 +71,15 @@ fn search_parts<W: Write>(
         let mark = twentieths(steps, parts);
         if done < mark {
             search(alloc, planner, mark - done)?;
-            is_written = write_progress(is_written, job_of(planner)?, progress);
+            let (job, cost) = incumbent_of(planner)?;
+            is_written = write_progress(is_written, job, cost, progress);
             done = mark;
         }
     }
     Ok(is_written)
 }
 
-// Makes this many more steps of the search, in operations of at most 256.
+// Makes this many more steps of the search, at most 256 in one operation.
 fn search(alloc: Global, planner: &mut Planner, steps: u32) -> Result<(), OutOfMemory>
     ensures { OnOk result (planner.new ≡ effect planner.old (Command.Search steps)) }
 {

@@ -1,4 +1,4 @@
-//! `solve`: turns the text of an instance into that of a plan.
+//! `solve`: turns the text of an instance into the text of a plan.
 ghost use Rattle.std.specs.Prelude.{◌≡◌, IfOk, MatchResult, OnOk};
 ghost use Rattle.command_core.specs.Effects.{effect};
 ghost use Rattle.command_types.specs.declared.commands.Command.TheVariants.{Build, Load};
@@ -67,7 +67,7 @@ pub fn solve<W: Write>(
     }
 }
 
-// Solves a problem and returns the answer.
+// Builds a plan for the problem, improves it, and returns it as text.
 fn found<W: Write>(
     alloc: Global,
     problem: Problem,
@@ -84,7 +84,7 @@ fn found<W: Write>(
     answer(alloc, ended)
 }
 
-// Returns the job with the built plan of a problem.
+// Returns the job with the problem loaded and its plan built.
 fn build(alloc: Global, problem: Problem, seed: u64) -> Result<Job, OutOfMemory>
     ensures { IfOk result (λ job. job ≡ begun problem seed) }
 {
@@ -115,7 +115,7 @@ fn refused(fault: ReadFault) -> SolveFault
     }
 }
 
-// Makes the steps, by the search or by annealing.
+// Makes the steps, by the search with a deviation or by annealing without one.
 fn walk<W: Write>(
     alloc: Global,
     begun: Job,

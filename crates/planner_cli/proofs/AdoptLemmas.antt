@@ -40,7 +40,7 @@ module _ (law : AssignedPlansPass) where
       by true e = cc
       by false e = cc
 
-  -- A denial for a store without a sequence left is not `NotAPlan`.
+  -- The denial `Spent`, of a store that has no sequence number left, is not `NotAPlan`.
   not_spent : (b : Bool) → cond b (Some Spent) None ≡ Some (Core NotAPlan) → ⊥
   not_spent true e = cc
   not_spent false e = cc

@@ -1,5 +1,5 @@
--- A crash within the opening leaves an image that was possible before. A crash after it leaves a prefix of the
--- commands, with all that were acknowledged by then.
+-- Recovery after a crash of a run. A crash within the opening leaves an image that was possible before. A crash
+-- after it leaves a prefix of the commands, with all that were acknowledged by then.
 use Rattle.std.proofs.Common.{◌≡◌, ◌∙◌, ℕ, ◌+◌, ◌≤◌, ◌⊎◌, inl, inr, Bool, true, false, ◌&&◌, cond, List, [], ◌∷◌, ◌++◌, refl, sym, ap, subst, arith, append-nil}
 use Rattle.std.specs.Prelude.{Result, Ok, Err, Option, Some, is_ok, nat_le, if◌then◌else◌}
 use Rattle.std.proofs.lemmas.Bool.{lt-leb}
@@ -23,7 +23,7 @@ use Rattle.recover.specs.Applying.{IsAnswer, IsBetween, Makes, calls_of, denial,
 use Rattle.recover.specs.Headline.{OpensToImageState, Headline, IsRecovered, LeavesPrefix}
 use Rattle.recover.specs.Composition.{IsRunOn}
 use Rattle.recover.specs.Moments.{RunLeaves, RecoversToPrefix}
-use Rattle.recover.specs.Replies.{acked, is_acknowledged, kept}
+use Rattle.recover.specs.Replies.{acknowledged_count, is_acknowledged, kept_commands}
 use Rattle.recover.specs.Sessions.{SessionValue}
 use Rattle.recover.specs.RecoversTo.{RecoversTo}
 use Rattle.recover.specs.declared.denials.Denial.{Denial}
@@ -35,9 +35,9 @@ use Rattle.state_codec.specs.declared.version.Version.TheVariants.{Two}
 
 -- ---- Acknowledged commands before a run has made a call
 
-unacked : (m : ℕ) (reply : Reply) (replies : List Reply) → is_acknowledged m reply ≡ false → acked m replies ≡ 0 → acked m (reply ∷ replies) ≡ 0
-unacked m reply replies not_yet none =
-    sum_by-cons (λ r. cond (is_acknowledged m r) 1 0) reply replies ∙ ap (λ (b : Bool). cond b 1 0 + acked m replies) not_yet ∙ ap (λ (k : ℕ). 0 + k) none
+unacknowledged : (m : ℕ) (reply : Reply) (replies : List Reply) → is_acknowledged m reply ≡ false → acknowledged_count m replies ≡ 0 → acknowledged_count m (reply ∷ replies) ≡ 0
+unacknowledged m reply replies not_yet none =
+    sum_by-cons (λ r. cond (is_acknowledged m r) 1 0) reply replies ∙ ap (λ (b : Bool). cond b 1 0 + acknowledged_count m replies) not_yet ∙ ap (λ (k : ℕ). 0 + k) none
 
 some_calls : (place : Place) (command : Command) → 1 ≤ calls_of place command
 some_calls place command = elim (is_snapshot_due place command) as (λ b. 1 ≤ (if b then 4 else 2)) [ true ↦ omega arith | false ↦ omega arith ]
@@ -47,19 +47,19 @@ answers answer n = record { answer = answer; calls = n }
 
 module _ {D : Type 0} (on : sectors.Ghosts D) where
   -- A broken session acknowledges nothing.
-  none_of_broken : (commands : List Command) (replies : List Reply) (old new : SessionValue D) → old.is_broken ≡ true → IsRunOn on old commands replies new → (m : ℕ) → acked m replies ≡ 0
+  none_of_broken : (commands : List Command) (replies : List Reply) (old new : SessionValue D) → old.is_broken ≡ true → IsRunOn on old commands replies new → (m : ℕ) → acknowledged_count m replies ≡ 0
   none_of_broken [] [] old new broken run m = refl
   none_of_broken (command ∷ commands) (reply ∷ replies) old new broken run m =
       let applied : IsAppliedOn on old command reply run.0 = run.1 in
       let why : denial old command ≡ Some Broken = rw broken refl in
       let reported : reply.answer ≡ Err Broken = subst (λ (o : Option Denial). IsAnswer o reply.answer) why applied.answer in
       let same : run.0 ≡ old = subst (λ (a : Result (Unit {0}) Denial). Makes a old command run.0) reported applied.makes in
-      unacked m reply replies (ap (λ (a : Result (Unit {0}) Denial). is_ok a && nat_le reply.calls m) reported)
+      unacknowledged m reply replies (ap (λ (a : Result (Unit {0}) Denial). is_ok a && nat_le reply.calls m) reported)
       (none_of_broken commands replies run.0 new (ap (λ (s : SessionValue D). s.is_broken) same ∙ broken) run.2 m)
   none_of_broken [] (reply ∷ replies) old new broken run m = elim run [ ]
   none_of_broken (command ∷ commands) [] old new broken run m = elim run [ ]
 
-  none_yet : (commands : List Command) (replies : List Reply) (old new : SessionValue D) → IsRunOn on old commands replies new → (m : ℕ) → m ≤ on.calls old.device → acked m replies ≡ 0
+  none_yet : (commands : List Command) (replies : List Reply) (old new : SessionValue D) → IsRunOn on old commands replies new → (m : ℕ) → m ≤ on.calls old.device → acknowledged_count m replies ≡ 0
   none_yet [] [] old new run m le = refl
   none_yet (command ∷ commands) (reply ∷ replies) old new run m le =
       first reply.answer reply.calls run.1 (none_yet commands replies run.0 new run.2 m) (λ broken. none_of_broken commands replies run.0 new broken run.2 m)
@@ -67,39 +67,39 @@ module _ {D : Type 0} (on : sectors.Ghosts D) where
       kept_calls : run.0 ≡ old → m ≤ on.calls run.0.device
       kept_calls same = subst (λ (s : SessionValue D). m ≤ on.calls s.device) (sym same) le
 
-      first : (answer : Result (Unit {0}) Denial) (n : ℕ) → IsAppliedOn on old command (answers answer n) run.0 → (m ≤ on.calls run.0.device → acked m replies ≡ 0)
-          → (run.0.is_broken ≡ true → acked m replies ≡ 0) → acked m (answers answer n ∷ replies) ≡ 0
+      first : (answer : Result (Unit {0}) Denial) (n : ℕ) → IsAppliedOn on old command (answers answer n) run.0 → (m ≤ on.calls run.0.device → acknowledged_count m replies ≡ 0)
+          → (run.0.is_broken ≡ true → acknowledged_count m replies ≡ 0) → acknowledged_count m (answers answer n ∷ replies) ≡ 0
       first (Ok done) n applied later broken =
           let calls : on.calls run.0.device ≡ on.calls old.device + calls_of old.place command = applied.called.finished in
           let below : nat_le n m ≡ false = lt-leb n m (omega (arith, le, calls, some_calls old.place command, applied.count)) in
-          unacked m (answers (Ok done) n) replies below (later (omega (arith, le, calls)))
-      first (Err DeviceFault) n applied later broken = unacked m (answers (Err DeviceFault) n) replies refl (broken applied.makes.is_broken)
-      first (Err Broken) n applied later broken = unacked m (answers (Err Broken) n) replies refl (later (kept_calls applied.makes))
-      first (Err (Core r)) n applied later broken = unacked m (answers (Err (Core r)) n) replies refl (later (kept_calls applied.makes))
-      first (Err Spent) n applied later broken = unacked m (answers (Err Spent) n) replies refl (later (kept_calls applied.makes))
-      first (Err OutOfMemory) n applied later broken = unacked m (answers (Err OutOfMemory) n) replies refl (later (kept_calls applied.makes))
+          unacknowledged m (answers (Ok done) n) replies below (later (omega (arith, le, calls)))
+      first (Err DeviceFault) n applied later broken = unacknowledged m (answers (Err DeviceFault) n) replies refl (broken applied.makes.is_broken)
+      first (Err Broken) n applied later broken = unacknowledged m (answers (Err Broken) n) replies refl (later (kept_calls applied.makes))
+      first (Err (Core r)) n applied later broken = unacknowledged m (answers (Err (Core r)) n) replies refl (later (kept_calls applied.makes))
+      first (Err Spent) n applied later broken = unacknowledged m (answers (Err Spent) n) replies refl (later (kept_calls applied.makes))
+      first (Err OutOfMemory) n applied later broken = unacknowledged m (answers (Err OutOfMemory) n) replies refl (later (kept_calls applied.makes))
   none_yet [] (reply ∷ replies) old new run m le = elim run [ ]
   none_yet (command ∷ commands) [] old new run m le = elim run [ ]
 
-  -- If nothing is acknowledged, an image that recovers to the first state recovers to a prefix of the commands:
+  -- If nothing is acknowledged, an image that recovers to the first state recovers to a prefix of the commands,
   -- the empty one.
-  begun_stands : (state : State) (commands : List Command) (acknowledged : ℕ) (image : List ℕ) → acknowledged ≡ 0 → RecoversTo Two image state → RecoversToPrefix state commands acknowledged image
-  begun_stands state commands acknowledged image none stands = record {
+  begun_recovers : (state : State) (commands : List Command) (acknowledged : ℕ) (image : List ℕ) → acknowledged ≡ 0 → RecoversTo Two image state → RecoversToPrefix state commands acknowledged image
+  begun_recovers state commands acknowledged image none recovers = record {
     count = 0;
     all_acknowledged = omega (arith, none);
     one_more = omega arith;
     within = omega arith;
     accepted = tt;
-    stands = stands;
+    recovers = recovers;
   }
 
-  -- The session since its device was passed to the opening. A crash at each moment since then leaves what the
-  -- run guarantees.
+  -- The moments of a run since its device was passed to the opening: a crash at any of them leaves a prefix of
+  -- the commands, as for a run that begins after the opening.
   pub from_before : (device : D) (session new : SessionValue D) (replayed : ℕ) (commands : List Command) (replies : List Reply)
       → IsOpened on device session replayed → IsRunOn on session commands replies new
       → (on.honest new.device → Throughout on.clock on.possible_since session.device new.device (RunLeaves session.state commands replies))
       → ((image : List ℕ) → on.possible device image → RecoversTo Two image session.state) → LeavesPrefix on (record session { device = device }) commands replies new
-  from_before device session new replayed commands replies opened run moments stood whole honest m image stop =
+  from_before device session new replayed commands replies opened run moments recovered_before whole honest m image stop =
       let opening = opened.moments (honest_before on commands replies session new run honest) in
       at opening ((moments honest).before (on.clock device) m image opening.later stop)
     where
@@ -107,20 +107,20 @@ module _ {D : Type 0} (on : sectors.Ghosts D) where
           → on.possible_since session.device (on.clock device) m image ⊎ RunLeaves session.state commands replies m image → RunLeaves session.state commands replies m image
       at opening (inl early) =
           let left = opening.each m image early in
-          begun_stands session.state (kept commands replies) (acked m replies) image
-          (none_yet commands replies session new run m (omega (arith, left.0.1, opened.finished))) (stood image left.1)
+          begun_recovers session.state (kept_commands commands replies) (acknowledged_count m replies) image
+          (none_yet commands replies session new run m (omega (arith, left.0.1, opened.finished))) (recovered_before image left.1)
       at opening (inr some) = some
 
 pub run_headline : {D E : Type 0} (on : sectors.Ghosts D) (again : sectors.Ghosts E) (reading : Reading) (reads : IsReading reading) → Headline on again
     → ServingsAreRuns on → RunRecovers on again reading reads
-run_headline on again reading reads law runs run device m image other left outcome is honest stood stop given settled opens =
+run_headline on again reading reads law runs run device m image other left outcome is honest recovered_before stop given settled opens =
     let acts : List Act = acts_in on reading reads run device is in
     let session = is.session in
     let new = is.new in
     let done : IsRunOfInput on reading session run.input acts new =
     runs reading session new run.input is.runs.opened is.runs.answered is.runs.served ((is.runs.ends.serves run.input is.is_input).serves reading reads) in
     let leaves = from_before on device session new is.replayed (commands_of acts) (replies_of acts) is.opened done.run
-    (is.runs.ends.moments (commands_of acts) (replies_of acts) done.run is.opened.whole) stood in (
+    (is.runs.ends.moments (commands_of acts) (replies_of acts) done.run is.opened.whole) recovered_before in (
       done.requests_kept,
       law (record session { device = device }) new (commands_of acts) (replies_of acts) m image other left outcome is.opened.whole honest leaves stop given settled opens,
     )
@@ -131,20 +131,20 @@ served_run_headline on again reading reads law run device m image other left out
     law reading is.session is.new run.input is.runs.opened is.runs.answered is.runs.served m image other left outcome ((is.runs.ends.serves run.input is.is_input).serves reading reads)
     is.opened.whole honest is.runs.ends.moments stop given settled opens
 
--- The next opening returns the state that such a crash leaves.
+-- If a run crashed, the state that the next opening returns is one that the law about crashed runs describes.
 pub runs_are_linked : {D E : Type 0} (on : sectors.Ghosts D) (again : sectors.Ghosts E) (reading : Reading) (reads : IsReading reading)
     → OpenedRunRecovers on again reading reads → RunsAreLinked on again reading reads
 runs_are_linked on again reading reads law run device m image next session replayed is honest stop given opened settled =
     let part = law run device m image next session.device (Ok session.state) is honest stop given settled opened.opens in
     (part.0, (part.1, refl))
 
--- For an input of which only the results of its reads are known, there is a text that begins with them.
+-- For any results of reads, there is an input that begins with the bytes that they returned.
 pub input_read : EveryReadingHasAnInput
 input_read given =
     let text = text_given given.after in
     (rest_after given.before text, inr (text, record { rest = []; whole = sym (append-nil text); end = λ ended. refl }, refl))
 
--- The conclusion of the main law for crashes since the moment `since`.
+-- The conclusion of the main law, for each crash at a moment from number `since` on.
 abbrev GivesFirstPartSince : {D E : Type 0} (on : sectors.Ghosts D) (again : sectors.Ghosts E) (reading : Reading) (reads : IsReading reading) → ℕ
     → (run : Run) (device : D) → RunsOver on run device → Type 0
 GivesFirstPartSince {D} {E} on again reading reads since run device is = (m : ℕ) (image : List ℕ) (other left : E) (outcome : Result State StoreFault)
@@ -162,14 +162,14 @@ keeps_answers on again reading reads reported_law since run device is law m imag
     let reported : ReportsAcknowledged reading is.session run.input acts m (put_by events) =
     reported_law reading is.session is.new run.input runs.opened runs.answered runs.served m events others ((runs.ends.serves run.input is.is_input).serves reading reads) noted timely in
     let part = law m image other left outcome stop given settled opens in
-    weaker (IsRecovered is.session.state (kept_of acts) (acked m (replies_of acts))) (KeepsPrintedAnswers on again reading reads run device is m (put_by events))
-    (λ given found. record { reported = reported; asks = part.0; recovered = found; holds = omega (arith, reported.acknowledged, found.all_acknowledged) }) outcome part.1
+    weaker (IsRecovered is.session.state (kept_of acts) (acknowledged_count m (replies_of acts))) (KeepsPrintedAnswers on again reading reads run device is m (put_by events))
+    (λ given found. record { reported = reported; requests = part.0; recovered = found; holds = omega (arith, reported.acknowledged, found.all_acknowledged) }) outcome part.1
 
 pub run_keeps_answers : {D E : Type 0} (on : sectors.Ghosts D) (again : sectors.Ghosts E) (reading : Reading) (reads : IsReading reading)
     → AnswersComeAfter on → RunRecovers on again reading reads → RunKeepsAnswers on again reading reads
-run_keeps_answers on again reading reads reported_law law run device is honest stood =
+run_keeps_answers on again reading reads reported_law law run device is honest recovered_before =
     keeps_answers on again reading reads reported_law (on.clock device) run device is
-    (λ m image other left outcome stop given settled opens. law run device m image other left outcome is honest stood stop given settled opens)
+    (λ m image other left outcome stop given settled opens. law run device m image other left outcome is honest recovered_before stop given settled opens)
 
 pub served_run_keeps_answers : {D E : Type 0} (on : sectors.Ghosts D) (again : sectors.Ghosts E) (reading : Reading) (reads : IsReading reading)
     → AnswersComeAfter on → OpenedRunRecovers on again reading reads → OpenedRunKeepsAnswers on again reading reads

@@ -37,7 +37,7 @@ unless_stopped (Ok done) reader writer len cause = tt
 unless_stopped (Err fault.ReadFault) reader writer len cause = cause
 unless_stopped (Err fault.WriteFault) reader writer len cause = failed_anyway writer None cause
 
--- A strict writer reports the answer that ends the run, unless its own writer has failed.
+-- If a strict writer has failed, its own writer has failed or the run ended at a failed answer.
 one_of_both : (writer : Bool) (reported failed_answer : Option FailedAnswer) → failed_answer ≡ stop_unless_failed writer reported → (writer || is_failed_answer reported) ≡ true → (writer || is_failed_answer failed_answer) ≡ true
 one_of_both true reported failed_answer is failed = refl
 one_of_both false reported failed_answer is failed = ap is_failed_answer is ∙ failed
@@ -74,12 +74,11 @@ pub is_empty : (s : State) → holds_instance s ≡ false → s ≡ Empty
 is_empty Empty e = refl
 is_empty (Loaded job) e = absurd (true≢false e)
 
--- If, after Ok, a property holds for the state of a session that is not broken, it holds for the state that the
--- command makes from the empty one.
+-- After `Ok`, a property of the new state holds for the effect of the command on the empty state.
 pub begun : {T D : Type 0} (answer : Result T Denial) (old new : SessionValue D) (command : Command) (Holds : State → Type 0) → old.state ≡ Empty → Makes answer old command new
     → (new.is_broken ≡ false → Holds new.state) → OnOk answer (Holds (effect Empty command))
-begun (Ok done) old new command Holds empty makes stands = subst Holds (makes.state ∙ ap (λ s. effect s command) empty) (stands makes.is_broken)
-begun (Err denial) old new command Holds empty makes stands = tt
+begun (Ok done) old new command Holds empty makes recovers = subst Holds (makes.state ∙ ap (λ s. effect s command) empty) (recovers makes.is_broken)
+begun (Err denial) old new command Holds empty makes recovers = tt
 
 -- ---- A text, or a prefix of it
 
@@ -121,7 +120,7 @@ three_can : (requested : InvocationValue) → CanEndWith requested 3
 three_can (upgrade old new) = inl (omega arith)
 three_can _ = omega arith
 
--- The returned status is one with which the subcommand can end.
+-- The exit status is one with which the subcommand can end, also if an answer could not be printed.
 pub status_can : {X : Type 0} (requested : InvocationValue) (reported : Result ℕ X) (status : ℕ) → IfOk reported (CanEndWith requested)
     → MatchResult reported (λ printed. status ≡ printed) (λ error. status ≡ 3) → CanEndWith requested status
 status_can requested (Ok printed) status can ends = subst (CanEndWith requested) (sym ends) can

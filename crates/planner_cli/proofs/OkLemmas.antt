@@ -16,14 +16,15 @@ use Rattle.command_text.specs.Answers.{line}
 use Rattle.planner_cli.specs.OkLaws.{OkFollowsCommand, OkFollowsFormat, IsWrittenBy}
 use Rattle.planner_cli.specs.Messages.{PrintsOk}
 use Rattle.recover.specs.Moments.{RunLeaves, RecoversToPrefix}
-use Rattle.recover.specs.Replies.{acked, is_acknowledged, kept, kept_first}
+use Rattle.recover.specs.Replies.{acknowledged_count, is_acknowledged, kept_commands, kept_first}
 use Rattle.recover.specs.RecoversTo.{RecoversTo}
 use Rattle.recover.specs.declared.denials.Denial.{Denial}
 use Rattle.recover.specs.declared.replies.Reply.{Reply}
 use Rattle.sector_disk.specs.declared.sectors.Sectors as sectors
 use Rattle.state_codec.specs.declared.version.Version.TheVariants.{Two}
 
--- If a part of the only text was written by then, its calls had finished.
+-- If a part of the only text was written when at most m calls had finished, the number recorded with the text is
+-- at most m.
 one_put : (calls m : ℕ) (text : List ℕ) (first others : List Event) → first ++ others ≡ Put calls text ∷ [] → AllByRecursion (λ event. calls_at event ≤ m) first → put_by first ≢ []
     → calls ≤ m
 one_put calls m text [] others is early some = absurd (some refl)
@@ -44,16 +45,17 @@ one_done state command commands acknowledged image all one some =
     let most : length commands ≡ 1 = ap length all in
     let count : some.count ≡ 1 = omega (arith, one, most, some.all_acknowledged, some.within) in
     let same : take some.count commands ≡ command ∷ [] = ap (λ (k : ℕ). take k commands) count ∙ ap (take 1) all in
-    subst (RecoversTo Two image) (ap (after state) same) some.stands
+    subst (RecoversTo Two image) (ap (after state) same) some.recovers
 
--- If a reply reports success, its command was acknowledged by then.
+-- If a command was answered with success when at most m calls had finished, an image after m calls recovers to
+-- the state after the command.
 acknowledged : (state : State) (command : Command) (reply : Reply) (done : ⊤) (m : ℕ) (image : List ℕ) → reply.answer ≡ Ok done → reply.calls ≤ m
     → RunLeaves state (command ∷ []) (reply ∷ []) m image → RecoversTo Two image (effect state command)
 acknowledged state command reply done m image answered early leaves =
-    let all : kept (command ∷ []) (reply ∷ []) ≡ command ∷ [] = ap (λ (a : Result ⊤ Denial). kept_first command a []) answered in
+    let all : kept_commands (command ∷ []) (reply ∷ []) ≡ command ∷ [] = ap (λ (a : Result ⊤ Denial). kept_first command a []) answered in
     let is : is_acknowledged m reply ≡ true = ap (λ (a : Result ⊤ Denial). is_ok a && nat_le reply.calls m) answered ∙ le-leb reply.calls m early in
-    let one : acked m (reply ∷ []) ≡ 1 = sum_by-cons (λ r. cond (is_acknowledged m r) 1 0) reply [] ∙ ap (λ (b : Bool). cond b 1 0 + acked m []) is in
-    one_done state command (kept (command ∷ []) (reply ∷ [])) (acked m (reply ∷ [])) image all one leaves
+    let one : acknowledged_count m (reply ∷ []) ≡ 1 = sum_by-cons (λ r. cond (is_acknowledged m r) 1 0) reply [] ∙ ap (λ (b : Bool). cond b 1 0 + acknowledged_count m []) is in
+    one_done state command (kept_commands (command ∷ []) (reply ∷ [])) (acknowledged_count m (reply ∷ [])) image all one leaves
 
 module _ {D : Type 0} (on : sectors.Ghosts D) where
   pub made_before : OkFollowsFormat on

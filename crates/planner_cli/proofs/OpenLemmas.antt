@@ -32,12 +32,12 @@ stands_for_none image Spent nothing = inl nothing
 
 -- Opening an image that holds nothing does not return a state.
 opens_none : NeverBoth → (image : List ℕ) (fault : StoreFault) → UnlessReadFailed (HoldsNothing Two image) fault → Opens Two image (Err fault)
-opens_none never image DeviceFault nothing state stands = tt
-opens_none never image OutOfMemory nothing state stands = tt
-opens_none never image NotFormatted nothing state stands = never Two image stands.snapshot stands.commands stands.place NotFormatted stands.holds nothing
-opens_none never image BadVersion nothing state stands = never Two image stands.snapshot stands.commands stands.place BadVersion stands.holds nothing
-opens_none never image (Codec fault) nothing state stands = never Two image stands.snapshot stands.commands stands.place (Codec fault) stands.holds nothing
-opens_none never image Spent nothing state stands = never Two image stands.snapshot stands.commands stands.place Spent stands.holds nothing
+opens_none never image DeviceFault nothing state recovers = tt
+opens_none never image OutOfMemory nothing state recovers = tt
+opens_none never image NotFormatted nothing state recovers = never Two image recovers.snapshot recovers.commands recovers.place NotFormatted recovers.holds nothing
+opens_none never image BadVersion nothing state recovers = never Two image recovers.snapshot recovers.commands recovers.place BadVersion recovers.holds nothing
+opens_none never image (Codec fault) nothing state recovers = never Two image recovers.snapshot recovers.commands recovers.place (Codec fault) recovers.holds nothing
+opens_none never image Spent nothing state recovers = never Two image recovers.snapshot recovers.commands recovers.place Spent recovers.holds nothing
 
 abbrev pub unread : StoreFault → Result ℕ StoreFault
 unread fault = Err fault
@@ -48,7 +48,7 @@ refused_state fault = Err fault
 abbrev pub found : ℕ → Result ℕ StoreFault
 found steps = Ok steps
 
--- Equal answers with faults have the same fault.
+-- If two equal results are faults, the faults are equal.
 same_fault : (answer other : Result ℕ StoreFault) (fault cause : StoreFault) → answer ≡ Err fault → other ≡ Err cause → answer ≡ other → fault ≡ cause
 same_fault answer other fault cause is reported same = cc
 
@@ -64,8 +64,8 @@ reads_again (Codec fault) possible before after here same = same
 reads_again Spent possible before after here same = same
 reads_again OutOfMemory possible before after here same = same
 
--- If a first call has kept the bytes that reads return and added no possible image, the guarantee of the second
--- call holds for both.
+-- If a first call has changed neither the bytes that reads return nor added a possible image, the guarantee of
+-- the second call holds for both calls together.
 reads_after : (fault : StoreFault) (possible now : List ℕ → Type 0) (before between after : List ℕ) → ((image : List ℕ) → now image → possible image)
     → between ≡ before → ReadsAfter fault now between after → ReadsAfter fault possible before after
 reads_after DeviceFault possible now before between after each same is = each after is
@@ -105,17 +105,17 @@ module _ {D : Type 0} (on : sectors.Ghosts D) (old read : D) where
     };
   }
 
-  -- The case that the device was read, and then read again or opened.
+  -- The device was read, and then read again or opened.
   module _ (steps : ℕ) (only : IsOnlyRead on (found steps) old read) where
     kept : on.honest read → IsUnchanged on.clock on.possible_since on.possible on.seen on.calls old read
     kept = only.read.kept
 
-    -- At each moment of the opening, the images are those possible before the read.
+    -- A moment of the opening is a moment since the read began, and its image was possible before the read.
     within : (m : ℕ) (image : List ℕ) → on.honest read → IsBetween (on.calls read) (on.calls read + 1) m image × on.possible read image
         → IsBetween (on.calls old) (on.calls old + 1) m image × on.possible old image
     within m image honest at = (subst (λ (n : ℕ). IsBetween n (n + 1) m image) only.read.called.finished at.0, (kept honest).images.nothing_else image at.1)
 
-    -- At each moment of the read, too, the images are those possible before it.
+    -- A moment of the read is one of the whole opening, and its image was possible before the read.
     before : (m : ℕ) (image : List ℕ) → (m ≡ on.calls old) × on.possible old image → IsBetween (on.calls old) (on.calls old + 1) m image × on.possible old image
     before m image at = ((omega (arith, at.0), omega (arith, at.0)), at.1)
 
@@ -174,7 +174,7 @@ module _ {D : Type 0} (on : sectors.Ghosts D) (old read : D) where
           given = λ honest. subst (λ (image : List ℕ). RecoversTo Two image session.state) (same honest) (following.given honest);
           opens = λ honest. subst (λ (image : List ℕ). Opens Two image (Ok session.state)) (same honest) (following.opens honest);
           replays = λ honest. subst (λ (image : List ℕ). IsReplayed Two image session.state session.place replayed) (same honest) (following.replays honest);
-          stands = following.stands;
+          recovers = following.recovers;
           reads = λ honest. following.reads honest ∙ same honest;
           moments = λ honest. moments session.device (following.honest honest) (following.moments honest);
           honest = λ honest. only.read.called.honest_before (following.honest honest);

@@ -11,7 +11,7 @@ module _ {D : Type 0} (on : sectors.Ghosts D) where
   abbrev OnlyNow : Type 0
   OnlyNow = (d : D) (m : ℕ) (image : List ℕ) → on.honest d → on.possible_since d (on.clock d) m image → (m ≡ on.calls d) × on.possible d image
 
-  -- The image was possible before, and the number of finished calls is the same.
+  -- The image was possible on the old device, and no other call has finished since.
   abbrev Still : D → ℕ → List ℕ → Type 0
   Still old m image = (m ≡ on.calls old) × on.possible old image
 

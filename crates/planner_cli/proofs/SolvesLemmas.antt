@@ -1,4 +1,4 @@
--- Lemmas about the output for a list of instances.
+-- Lemmas about the results for a list of instances.
 use Rattle.std.proofs.Common.{◌≡◌, ℕ, List, [], ◌∷◌, Option, Some, None, Err, refl, ap, subst}
 use Rattle.std.specs.Io.KnownBytes.{Appends}
 use Rattle.std.specs.declared.io.ErrorKind.{ErrorKind}
@@ -21,7 +21,7 @@ done_as was now made errors read e = ap (λ (reads : List FileRead). the_done re
 pub all_grown : (was next now : FileEffects) → AreGrown was next → AreGrown next now → AreGrown was now
 all_grown was next now a b = (grown_twice was.reads next.reads now.reads a.0 b.0, grown_twice was.writes next.writes now.writes a.1 b.1)
 
--- The line of a plan depends on its text and on whether it leaves requests out.
+-- The line that is printed for a written plan is the one that its text and its unplanned requests require.
 pub placed_plan : (k : Format) (x text names : List ℕ) (audited : Option AuditAnswer) (before after : Option (List ℕ)) (status : ℕ)
     → IsAuditOf k x text names audited → PrintsPlaced audited names before after status
     → (reported : List ℕ) × IsPlanLine k x text names reported status × Appends before after reported
@@ -30,7 +30,7 @@ placed_plan k x text [] None before after status is reported = absurd is
 placed_plan k x text (name ∷ names) (Some answer) before after status is reported = absurd is
 placed_plan k x text (name ∷ names) None before after status is reported = (unplanned_line (name ∷ names), (refl, reported.0), reported.1)
 
--- The case that no file can be made at the path.
+-- If no new file could be made at the path, the line says so.
 pub unwritten : (path : List ℕ) (error kind : ErrorKind) (made left : List FileWrite) (before after : Option (List ℕ)) (status : ℕ) → kind ≡ error
     → left ≡ (path, Err error) ∷ made → PrintsWriteFailure path kind before after status
     → IsWriteFailure path made left (write_failure_line path error) status × Appends before after (write_failure_line path error)

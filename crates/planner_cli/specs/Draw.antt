@@ -31,8 +31,8 @@ use Rattle.planner_cli.specs.declared.draw.Drawing.{Drawing}
 use Rattle.planner_cli.specs.declared.draw.Drawing.TheVariants.{NoSuchRoute, Partial, Picture, Refused}
 use Rattle.sector_disk.specs.declared.sectors.Sectors as sectors
 
--- The drawing is the picture of all routes, with their verdict, or of the route with this number, counted from
--- 1. There may be no such route.
+-- The picture of all routes, with their verdict, or of the route with this number, counted from 1; or there is no
+-- such route.
 abbrev pub IsPictureOf : Option ℕ → Instance → List (List ℕ) → Verdict → Drawing → Type 0
 IsPictureOf None p routes verdict (Picture svg) = svg.items ≡ picture p routes verdict
 IsPictureOf (Some number) p routes verdict (Picture svg) = Some svg.items ≡ route_picture p routes verdict number
@@ -52,6 +52,7 @@ IsPartialDrawing route partial (Partial svg left_out) =
 IsPartialDrawing route partial NoSuchRoute = IsPictureOf route partial.problem partial.plan.routes (Pass partial.cost) NoSuchRoute
 IsPartialDrawing route partial _ = ⊥
 
+-- The drawing of two examined files, of which the second may be a partial plan.
 abbrev pub IsPlanDrawing : Option ℕ → PlanExamination → Drawing → Type 0
 IsPlanDrawing route (plan.Whole examined) drawing = IsDrawingOf route examined drawing
 IsPlanDrawing route (plan.Partial partial) drawing = IsPartialDrawing route partial drawing
@@ -71,6 +72,7 @@ PrintsDrawing (Partial svg left_out) output after errors later status = (status 
 PrintsDrawing NoSuchRoute output after errors later status = (status ≡ 2) × Appends errors later (line (codes "no NoSuchRoute")) × Appends output after []
 PrintsDrawing (Refused answer) output after errors later status = (status ≡ answer.status) × Appends errors later (line answer.line) × Appends output after []
 
+-- The drawing is printed; or `out of memory` on standard error, with status 4, and nothing on the output.
 abbrev pub PrintsDrawResult : {E : Type 0} → Result Drawing E → Option (List ℕ) → Option (List ℕ) → Option (List ℕ) → Option (List ℕ) → ℕ → Type 0
 PrintsDrawResult (Ok drawing) output after errors later status = PrintsDrawing drawing output after errors later status
 PrintsDrawResult (Err e) output after errors later status = (status ≡ 4) × Appends errors later (line (codes "out of memory")) × Appends output after []
@@ -84,7 +86,7 @@ pub record DrawsBothRead (k : Format) (route : Option ℕ) (instance solution : 
   pub draws : IfOk drawn (IsDrawing k route x y)
   pub reported : PrintsDrawResult drawn output after errors later status
 
--- One of the files could not be read.
+-- One of the files could not be read, and a line on standard error says so.
 pub record PrintsUnreadFile (instance solution : List ℕ) (was now : List FileRead) (output after errors later : Option (List ℕ)) (status : ℕ) : Type 0 where
   pub path : List ℕ
   pub error : ErrorKind
@@ -92,17 +94,18 @@ pub record PrintsUnreadFile (instance solution : List ℕ) (was now : List FileR
   pub reported : PrintsReadFailure path error errors later status
   pub silent : Appends output after []
 
+-- The solution in two files is drawn, or only its route with this number; or one of the files could not be read.
 abbrev pub DrawsFiles : Format → Option ℕ → List ℕ → List ℕ → List FileRead → List FileRead → Option (List ℕ) → Option (List ℕ) → Option (List ℕ) → Option (List ℕ) → ℕ → Type 0
 DrawsFiles k route instance solution was now output after errors later status =
     DrawsBothRead k route instance solution was now output after errors later status ⊎ PrintsUnreadFile instance solution was now output after errors later status
 
--- The number of vehicles up to the last one with a stop. `before` vehicles come before these, and `count` is
--- their number up to the last one with a stop.
+-- The number of vehicles up to the last one with a stop. The routes given are those after the first `before`
+-- vehicles, and `count` is the number of vehicles up to the last one with a stop among these first ones.
 abbrev pub used_vehicle_count_after : ℕ → ℕ → List (List ℕ) → ℕ
 used_vehicle_count_after count before [] = count
 used_vehicle_count_after count before (route ∷ routes) = used_vehicle_count_after (if length route == 0 then count else before + 1) (before + 1) routes
 
--- The vehicles up to the last one with a stop. Those after it are idle.
+-- The routes of the vehicles up to the last one with a stop. The vehicles after it are idle.
 abbrev pub used_vehicles : List (List ℕ) → List (List ℕ)
 used_vehicles routes = take (used_vehicle_count_after 0 0 routes) routes
 
@@ -115,10 +118,10 @@ abbrev pub DrawsState : Option ℕ → State → Option (List ℕ) → Option (L
 DrawsState route Empty output after errors later status = (status ≡ 2) × Appends errors later (line (codes "no NoInstance")) × Appends output after []
 DrawsState route (Loaded job) output after errors later status = (drawn : Result Drawing AllocError) × IfOk drawn (IsJobDrawing route job) × PrintsDrawResult drawn output after errors later status
 
--- The store in the file is opened for reading only, and its plan is drawn, or the route of the vehicle with
--- this number; or the reason why there is no picture is printed on standard error. `IsShared` is the knowledge
--- about the device over the file, and `foretold` is the content of standard error after the line with the
--- number of replayed search steps.
+-- The store in the file is opened for reading only, and its plan is drawn, or the route of the vehicle with this
+-- number; or the reason why there is no picture is printed on standard error. `IsShared` says what is known about
+-- the device over the file. `foretold` is the content of standard error after the line with the number of
+-- replayed search steps.
 abbrev pub DrawsStore : {D : Type 0} → sectors.Ghosts D → (List ℕ → D → Type 0) → List ℕ → Option ℕ → Option (List ℕ) → Option (List ℕ) → Option (List ℕ) → Option (List ℕ) → ℕ → Type 0
 DrawsStore {D} on IsShared path route output after errors later status =
     (foretold : Option (List ℕ))

@@ -23,7 +23,8 @@ use Rattle.sector_disk.specs.declared.sectors.Sectors as sectors
 use Rattle.state_codec.specs.declared.version.Version.TheVariants.{Two}
 
 module _ {D : Type 0} (on : sectors.Ghosts D) where
-  -- A store with this state was made on the device, and every image holds that store; or making it failed.
+  -- Making a store with this state on the device ended with this result. After `Ok`, if the device is honest,
+  -- each image that a crash may leave holds that store.
   pub record IsMadeWith (state : State) (old new : D) (made : Result Place FormatFault) : Type 0 where
     pub holds : on.honest new → OnOk made ((image : List ℕ) → on.possible new image → Holds Two image state [] first_place)
     pub place : IfOk made (λ place. place ≡ first_place)
@@ -35,22 +36,22 @@ module _ {D : Type 0} (on : sectors.Ghosts D) where
     pub faults : on.faults new ≡ faults_after_format made (on.faults old)
     pub same_len : on.len new ≡ on.len old
 
-  -- An empty store was made on the device, or making it failed.
+  -- Making an empty store on the device ended with this result.
   abbrev pub IsFormatted : D → D → Result Place FormatFault → Type 0
   IsFormatted = IsMadeWith Empty
 
   -- A store with this state is made in a file of 8,450 sectors at the path, or no file is made. `Told` relates
-  -- the result to the number of finished device calls when it is printed, and `ReportedNone` holds for the
-  -- reason why no file is made. `IsNew` is the knowledge about the device over the file, and `left` is the
-  -- device afterwards.
+  -- the result to the number of finished device calls when it is printed, and `ReportedNone` holds for the reason
+  -- why no file is made. `IsNew` says what is known about the device over the file, and `left` is the device
+  -- afterwards.
   abbrev pub MakesStoreAt : (List ℕ → D → Type 0) → State → List ℕ → (Result Place FormatFault → ℕ → Type 0) → (FileFault → Type 0) → Option D → Type 0
   MakesStoreAt IsNew state path Told ReportedNone left =
       ((old : D) × (new : D) × (made : Result Place FormatFault) × (left ≡ Some new) × IsNew path old × (on.len old ≡ sectors_in version_2) × IsMadeWith state old new made
       × (result_err made ≢ Some TooSmall) × Told made (on.calls new))
-      ⊎ ((refusal : OpenError) × (left ≡ None) × IsNotCreatedAt path refusal × (refusal.fault ≢ BadLength) × ReportedNone refusal.fault)
+      ⊎ ((refusal : OpenError) × (left ≡ None) × IsNotCreatedAt (sectors_in version_2) path refusal × (refusal.fault ≢ BadLength) × ReportedNone refusal.fault)
 
-  -- The empty store is made, and the result is printed. `ok` is written when all calls that made the store have
-  -- finished. The last of them is a sync, so every crash image then holds the store.
+  -- The empty store is made, and the result is printed. `ok` is written after all device calls that made the
+  -- store have finished. The last of them is a sync, so every crash image then holds the store.
   abbrev pub FormatsStore : {E : Type 0} → (List ℕ → D → Type 0) → List ℕ → Stream → Stream → Result ℕ E → Option D → Type 0
   FormatsStore IsNew path before after reported left =
       MakesStoreAt IsNew Empty path (λ made calls. PrintsFormatResult format_fault_line made calls before after reported)

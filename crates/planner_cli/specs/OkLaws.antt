@@ -1,5 +1,5 @@
--- The laws about `ok`: the store or state that it reports is durable when its first byte is written. Whoever
--- reads that byte can rely on it, even if the power fails.
+-- The laws about `ok`: the store or state that it reports is durable when its first byte is written. So anybody
+-- who sees that byte can rely on it, even if the power fails.
 use Rattle.std.specs.Prelude.{◌≡◌, ◌≢◌, ◌≤◌, ℕ, false, List, [], ◌++◌, Result, Ok, ⊤}
 use Rattle.std.specs.List.{AllByRecursion}
 use Rattle.std.specs.declared.io.Error.{Error}
@@ -20,7 +20,8 @@ use Rattle.recover.specs.declared.replies.Reply.{Reply}
 use Rattle.sector_disk.specs.declared.sectors.Sectors as sectors
 use Rattle.state_codec.specs.declared.version.Version.TheVariants.{Two}
 
--- A byte was written when at most m calls had finished. Every flushed byte was written before.
+-- At least one byte was written while at most m calls had finished. Each byte that is flushed was written before,
+-- so this also covers flushed bytes.
 pub record IsWrittenBy (m : ℕ) (before after : Stream) : Type 0 where
   pub first : List Event
   pub others : List Event

@@ -1,4 +1,5 @@
--- The program: the files that each subcommand reads and makes, its output, its standard error, and its status.
+-- The program: the files that each subcommand reads and makes, its output, its standard error, and its exit
+-- status.
 use Rattle.std.specs.Prelude.{◌≡◌, ◌⊎◌, ℕ, Bool, true, List, ◌∷◌, Option, None, Result, IfOk, MatchResult}
 use Rattle.std.specs.declared.io.Error.{Error}
 use Rattle.clap.specs.Words.{Text}
@@ -7,7 +8,7 @@ use Rattle.command_line.specs.Invocations.{draw, draw_store, explain, format, lo
 use Rattle.plan_types.specs.declared.requests.Kind.TheVariants.{LiLim}
 use Rattle.instance_read.specs.Formats.{format_of}
 use Rattle.command_server.specs.TrackedStream.{held, reads_of, still_known}
-use Rattle.command_server.specs.Streams.{Given, Stream}
+use Rattle.command_server.specs.Streams.{InputRecord, Stream}
 use Rattle.auditor_cli.specs.IgnoredLines.{PrintsIgnored}
 use Rattle.planner_cli.specs.Adopt.{AdoptsSolution}
 use Rattle.planner_cli.specs.Check.{ChecksStore}
@@ -33,11 +34,12 @@ use Rattle.file_disk.specs.DeviceFiles.{FileRequestEntry}
 use Rattle.file_disk.specs.declared.device_files.FileRequest.TheVariants.{Create, OpenReadOnly, OpenExisting}
 use Rattle.sector_disk.specs.declared.sectors.Sectors as sectors
 
--- The reads and writes of the program, as far as they are known. `files` are the files read, `new_files` those
--- to be made (apart from stores), and `disks` the requests for store files, each with the newest first. `input`
--- is the rest of the input, and `reads` are the results of its reads, newest first. `output` has the contents
--- of the output and the writes and flushes on it; `errors` is the content of standard error. The last two
--- fields say whether the input or the output has failed.
+-- The reads and writes of the program, as far as they are known. `files` are the files that were read,
+-- `new_files` those that were to be made (apart from stores), and `disks` the requests for store files; each list
+-- has the newest entry first. `input` is the rest of the input, and `reads` has the bytes that each read of it
+-- returned, newest first. `output` has the contents of the output, and the writes and flushes on it. `errors` is
+-- the content of standard error, without the system's errors and the hints, which no clause covers. The last two
+-- fields say whether a call of the input or of the output has failed.
 pub record World : Type 0 where
   pub files : List FileRead
   pub new_files : List FileWrite
@@ -49,7 +51,7 @@ pub record World : Type 0 where
   pub input_failed : Bool
   pub output_failed : Bool
 
--- The world, seen through the ghost members of the types `F`, `N`, `X`, `I`, `W` and `E`.
+-- The world that the ghost members of the types `F`, `N`, `X`, `I`, `W` and `E` record.
 abbrev pub seen : {F N X I W E : Type 0} → (F → List FileRead) → (N → List FileWrite) → (X → List FileRequestEntry) → (I → Option (List ℕ)) → (W → Option (List ℕ))
     → (E → Option (List ℕ)) → F → N → X → Streams I W E → World
 seen reads writes requested remaining written reported files new_files disks streams = record {
@@ -64,19 +66,19 @@ seen reads writes requested remaining written reported files new_files disks str
   output_failed = streams.output.has_failed;
 }
 
--- The knowledge about the input.
-abbrev pub given_in : World → World → Given
+-- The input of a subcommand, as far as the worlds before and after it show it.
+abbrev pub given_in : World → World → InputRecord
 given_in old new = record { known = old.input; before = old.reads; after = new.reads }
 
--- The files that were read and made, and what standard error holds.
+-- The files that were read and those that were to be made, and the content of standard error.
 abbrev pub done_in : World → FileEffects
 done_in w = record { reads = w.files; writes = w.new_files; errors = w.errors }
 
--- The requests for store files.
+-- The requests for store files, before a subcommand and after it.
 abbrev pub disks_in : World → World → DiskRequests
 disks_in old new = record { was = old.disks; now = new.disks }
 
--- The files that a subcommand reads, even if an answer can't be printed.
+-- The files that a subcommand reads, whether or not its answer can be printed.
 abbrev pub AreReadFor : InvocationValue → List FileRead → List FileRead → Type 0
 AreReadFor built_in was now = now ≡ was
 AreReadFor (audit paths routes_alone) was now = AreReadInTurn paths.instance paths.solution was now
@@ -96,13 +98,13 @@ AreReadFor (upgrade old new) was now = now ≡ was
 AreReadFor (timetable paths is_tabbed) was now = AreReadInTurn paths.instance paths.solution was now
 AreReadFor (store_timetable store is_tabbed) was now = now ≡ was
 
--- Apart from stores, only `solves` makes files.
+-- The files that a subcommand makes, apart from stores: only `solves` makes any.
 abbrev pub AreMadeFor : InvocationValue → List FileWrite → List FileWrite → Type 0
 AreMadeFor (solves tasks) was now = IsGrown was now
 AreMadeFor _ was now = now ≡ was
 
--- The store files that a subcommand opens or makes, even if an answer can't be printed. For `load`, `adopt` and
--- `upgrade` they depend on the contents of the files (`LoadsInstance`, `AdoptsSolution`, `UpgradesStore`).
+-- The store files that a subcommand opens or makes, whether or not its answer can be printed. For `load`, `adopt`
+-- and `upgrade` they depend on the contents of the files (`LoadsInstance`, `AdoptsSolution`, `UpgradesStore`).
 abbrev pub AreRequestedFor : InvocationValue → List FileRequestEntry → List FileRequestEntry → Type 0
 AreRequestedFor (draw_store store route) was now = now ≡ (OpenReadOnly, store) ∷ was
 AreRequestedFor (format store) was now = now ≡ (Create, store) ∷ was
@@ -115,12 +117,13 @@ AreRequestedFor (upgrade old new) was now = Unit {0}
 AreRequestedFor (store_timetable store is_tabbed) was now = now ≡ (OpenReadOnly, store) ∷ was
 AreRequestedFor _ was now = now ≡ was
 
--- Only `run` reads the input.
+-- The input stays as it was, except for `run`, the only subcommand that reads it.
 abbrev pub IsInputKept : InvocationValue → World → World → Type 0
 IsInputKept (run store is_strict) old new = Unit {0}
 IsInputKept _ old new = (new.input ≡ old.input) × (new.reads ≡ old.reads)
 
--- Only the subcommands that are named here write to standard error.
+-- The stream `errors` stays as it was, except for the subcommands that are named here. Any subcommand may also
+-- print the system's errors and hints on standard error, which no clause covers.
 abbrev pub AreErrorsKept : InvocationValue → World → World → Type 0
 AreErrorsKept (audit paths routes_alone) old new = Unit {0}
 AreErrorsKept (audits kind list routes_alone) old new = Unit {0}
@@ -138,8 +141,8 @@ AreErrorsKept (check store) old new = Unit {0}
 AreErrorsKept (store_timetable store is_tabbed) old new = Unit {0}
 AreErrorsKept _ old new = new.errors ≡ old.errors
 
--- Only `run` serves an input. The guarantee holds for every result: also if an answer could not be printed, and
--- for a run that is killed.
+-- The guarantee of `run`, the only subcommand that serves an input. It holds for every result: also if an answer
+-- could not be printed, and for a run that is killed.
 abbrev pub ServesFor : {D : Type 0} → sectors.Ghosts D → (List ℕ → D → Type 0) → InvocationValue → World → World → Option D → Type 0
 ServesFor on IsOld (run store is_strict) old new left = ServesStore on IsOld store is_strict (given_in old new) old.output new.output new.input_failed new.output_failed left
 ServesFor on IsOld _ old new left = Unit {0}
@@ -155,10 +158,10 @@ AreLeftFor (upgrade old new) left = Unit {0}
 AreLeftFor _ left = left ≡ no_devices
 
 module _ {D N : Type 0} (on_old : sectors.Ghosts D) (on_new : sectors.Ghosts N) (IsOld IsShared IsNewFile : List ℕ → D → Type 0) (IsNew : List ℕ → N → Type 0) where
-  -- The subcommand was executed and its answer printed, if that was possible: `reported` is the printed status
-  -- or the error. `IsOld`, `IsShared` and `IsNewFile` are the knowledge about the device over the file at a
-  -- path that is opened, opened for reading only, or made; `IsNew` is the knowledge about the device over a
-  -- second file that is made. `left` are the devices afterwards: no call on them follows.
+  -- The subcommand was executed and its answer printed, if that was possible: `reported` is the exit status, or
+  -- the error of printing. `IsOld`, `IsShared` and `IsNewFile` say what is known about the device over the file
+  -- at a path that is opened, opened for reading only, or made. `IsNew` says what is known about the device over
+  -- a second file that is made. `left` are the devices afterwards: no call on them follows.
   abbrev pub Does : {X : Type 0} → InvocationValue → World → World → StoreDevices D N → Result ℕ X → Type 0
   Does built_in old new left reported = IfOk reported (PrintsAudit (format_of LiLim) example_instance example_solution old.output.contents new.output.contents)
   Does (audit paths routes_alone) old new left reported =
@@ -187,33 +190,33 @@ module _ {D N : Type 0} (on_old : sectors.Ghosts D) (on_new : sectors.Ghosts N) 
       IfOk reported (TimetablesFiles paths.format (form_of is_tabbed) paths.instance paths.solution old.files new.files old.output.contents new.output.contents old.errors new.errors)
   Does (store_timetable store is_tabbed) old new left reported = IfOk reported (TimetablesStore on_old IsShared store (form_of is_tabbed) old.output.contents new.output.contents)
 
-  -- The subcommand was executed, and everything else was left as it was, whether or not the answer could be
-  -- printed.
+  -- The subcommand was executed, and everything that it does not change was left as it was. This holds whether or
+  -- not the answer could be printed.
   pub record IsDone {X : Type 0} (requested : InvocationValue) (old new : World) (left : StoreDevices D N) (reported : Result ℕ X) : Type 0 where
     pub does : Does requested old new left reported
     pub serves : ServesFor on_old IsOld requested old new left.store
     pub leaves : AreLeftFor requested left
     pub reads : AreReadFor requested old.files new.files
     pub makes : AreMadeFor requested old.new_files new.new_files
-    pub asks : AreRequestedFor requested old.disks new.disks
+    pub requests : AreRequestedFor requested old.disks new.disks
     pub input : IsInputKept requested old new
     pub errors : AreErrorsKept requested old new
 
-  -- The command line was parsed. If an answer could not be printed, the status is 3, and the effects of
-  -- `format`, `load`, `adopt` and `upgrade` are stated nevertheless.
+  -- The command line was parsed and executed. If an answer could not be printed, the exit status is 3, and the
+  -- effects of `format`, `load`, `adopt` and `upgrade` are stated nevertheless.
   pub record Works (requested : InvocationValue) (old new : World) (left : StoreDevices D N) (status : ℕ) : Type 0 where
     pub reported : Result ℕ Error
     pub ends : MatchResult reported (λ printed. status ≡ printed) (λ error. status ≡ 3)
     pub done : IsDone requested old new left reported
     pub statuses : CanEndWith requested status
 
-  -- The command line was parsed and executed; or there was no memory to parse it, and nothing was done.
+  -- The command line was parsed and executed; or memory for parsing it ran out, and nothing was done.
   abbrev pub EndsWith : InvocationValue → World → World → StoreDevices D N → ℕ → Type 0
   EndsWith requested old new left status = Works requested old new left status ⊎ ((status ≡ 4) × (new ≡ old) × (left ≡ no_devices))
 
--- The command line requests help or has an error. Help leaves standard error as it was, and an error leaves the
--- output as it was. The status is one of a command line with an error, or 0, which means that help was
--- requested.
+-- The command line requests help or has an error, and no file, store or input is touched. Status 0: help was
+-- requested, and standard error is as it was. Status 64: the command line has an error, and the output is as it
+-- was. Status 3: the message could not be printed. Status 4: memory ran out, and nothing was printed.
 pub record PrintsUsage {D N : Type 0} (requested : List Text) (old new : World) (left : StoreDevices D N) (status : ℕ) : Type 0 where
   pub files : new.files ≡ old.files
   pub new_files : new.new_files ≡ old.new_files

@@ -9,7 +9,7 @@ use Rattle.checkpoint.specs.declared.faults.StoreFault.{StoreFault}
 use Rattle.command_types.specs.declared.states.State.{State}
 use Rattle.command_server.specs.Acts.{Act, IsPrefixOf, executed_of, kept_of, replies_of}
 use Rattle.command_server.specs.CrashRecovery.{RecoversPrefixOf, acts_of, requested_by}
-use Rattle.command_server.specs.Streams.{Event, Given, IsInput, Stream, put_by}
+use Rattle.command_server.specs.Streams.{Event, InputRecord, IsInput, Stream, put_by}
 use Rattle.command_server.specs.AnswerOrder.{ReportsAcknowledged, calls_at}
 use Rattle.command_text.specs.Cutting.{pieces_of}
 use Rattle.command_text.specs.Readings.{IsReading, Reading}
@@ -17,7 +17,7 @@ use Rattle.planner_cli.specs.Run.{ServesSession}
 use Rattle.recover.specs.Headline.{OpensToImageState, IsRecovered}
 use Rattle.recover.specs.Links.{AreLinked, Restart}
 use Rattle.recover.specs.Opening.{ReturnsUnlessFailed, IsOpened}
-use Rattle.recover.specs.Replies.{acked}
+use Rattle.recover.specs.Replies.{acknowledged_count}
 use Rattle.recover.specs.Sessions.{SessionValue}
 use Rattle.recover.specs.RecoversTo.{RecoversTo}
 use Rattle.sector_disk.specs.declared.sectors.Sectors as sectors
@@ -35,7 +35,7 @@ pub record Run : Type 0 where
 
 -- Law: whatever the reads of an input returned, there is an input that begins with these bytes.
 abbrev pub EveryReadingHasAnInput : Type 0
-EveryReadingHasAnInput = (given : Given) → (input : List ℕ) × IsInput given input
+EveryReadingHasAnInput = (given : InputRecord) → (input : List ℕ) × IsInput given input
 
 -- The statement holds for the one reading: the function that defines the contents of each text. There is only
 -- one such function (`ReadingsAgree`).
@@ -49,12 +49,12 @@ module _ {D : Type 0} (on : sectors.Ghosts D) where
     pub session : SessionValue D
     pub replayed : ℕ
     pub opened : IsOpened on device session replayed
-    pub given : Given
+    pub given : InputRecord
     pub is_input : IsInput given run.input
     pub new : SessionValue D
     pub runs : ServesSession on session replayed run.is_strict given run.before run.after run.reader_failed run.writer_failed new
 
-  -- The acts by which the input was served.
+  -- The acts by which the input was served: operations, and requests of memory for texts.
   abbrev pub acts_in : (reading : Reading) → IsReading reading → (run : Run) (device : D) → RunsOver run device → List Act
   acts_in reading reads run device is =
       acts_of on is.runs.served reading is.session run.input is.runs.opened is.runs.answered is.new
@@ -82,7 +82,7 @@ module _ {D E : Type 0} (on : sectors.Ghosts D) (again : sectors.Ghosts E) (read
   abbrev pub restart_of : (run : Run) (device : D) → RunsOver on run device → ℕ → State → Restart
   restart_of run device is m given =
       let acts = acts_in on reading reads run device is in
-      record { commands = kept_of acts; acknowledged = acked m (replies_of acts); given = given }
+      record { commands = kept_of acts; acknowledged = acknowledged_count m (replies_of acts); given = given }
 
   -- Law: a crashed run and the next opening form a link, with the commands that the run kept of those that its
   -- input requests. So runs compose over any number of crashes (`LinksCompose`).
@@ -113,8 +113,8 @@ module _ {D E : Type 0} (on : sectors.Ghosts D) (again : sectors.Ghosts E) (read
   -- finished, and the recovered state includes at least as many of the kept commands as the text reports.
   pub record KeepsPrintedAnswers (run : Run) (device : D) (is : RunsOver on run device) (m : ℕ) (text : List ℕ) (given : State) : Type 0 where
     pub reported : ReportsAcknowledged reading is.session run.input (acts_in on reading reads run device is) m text
-    pub asks : IsPrefixOf (kept_of (acts_in on reading reads run device is)) (requested_by reading is.session (pieces_of run.input) (acts_in on reading reads run device is))
-    pub recovered : IsRecovered is.session.state (kept_of (acts_in on reading reads run device is)) (acked m (replies_of (acts_in on reading reads run device is))) given
+    pub requests : IsPrefixOf (kept_of (acts_in on reading reads run device is)) (requested_by reading is.session (pieces_of run.input) (acts_in on reading reads run device is))
+    pub recovered : IsRecovered is.session.state (kept_of (acts_in on reading reads run device is)) (acknowledged_count m (replies_of (acts_in on reading reads run device is))) given
     pub holds : length (executed_of reported.first) ≤ recovered.count
 
   -- The answers are kept that were written, and may have been flushed, before a crash at a moment since

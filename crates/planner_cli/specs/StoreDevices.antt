@@ -7,7 +7,7 @@ use Rattle.planner_cli.specs.declared.opening.OpenFailure.TheVariants.{File, Sto
 use Rattle.sector_disk.specs.declared.sectors.Sectors as sectors
 
 module _ {D N : Type 0} where
-  -- No file was opened for writing.
+  -- No device is left: no store file was opened or made for writing.
   abbrev pub no_devices : StoreDevices D N
   no_devices = record { store = None; new_store = None }
 
@@ -19,11 +19,13 @@ module _ {D : Type 0} (on : sectors.Ghosts D) where
     pub honest : on.honest new → on.honest old
     pub kept : on.honest new → IsUnchanged on.clock on.possible_since on.possible on.seen on.calls old new
 
+  -- A device is left that was at most read.
   abbrev pub IsLeftRead : D → Option D → Type 0
   IsLeftRead device None = ⊥
   IsLeftRead device (Some left) = IsReadAtMost device left
 
-  -- The device of a store that was not opened, if there is one. It was read only for a hint about its file.
+  -- The device that is left if a store was not opened, if there is one. It was at most read, for a hint about its
+  -- file.
   abbrev pub IsLeftOnFailure : OpenFailure D → Option D → Type 0
   IsLeftOnFailure (File refusal) left = left ≡ None
   IsLeftOnFailure (Store fault device) left = IsLeftRead device left

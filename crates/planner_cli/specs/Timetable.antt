@@ -33,41 +33,44 @@ use Rattle.auditor_cli.specs.declared.partial.PlanExamination.{PlanExamination}
 use Rattle.auditor_cli.specs.declared.partial.PlanExamination.TheVariants.{Partial, Whole}
 use Rattle.sector_disk.specs.declared.sectors.Sectors as sectors
 
--- The form of a timetable: with tabs, or for people.
+-- The form of a timetable: fields between tabs, for programs, or columns, for people.
 abbrev pub form_of : Bool → Form
 form_of true = Tabs
 form_of false = Columns
 
--- The timetable of routes with pins, and each request that is in none of them.
+-- The text of the timetable of routes with pins. It also lists each request that is in no route.
 abbrev pub plan_text : Form → Instance → List (List ℕ) → List (List ℕ) → List ℕ
 plan_text form p pins routes = timetable_text form p pins routes (unplanned_names p routes)
 
+-- The text of the timetable of a solution's routes with their verdict. It also lists each request that is in no
+-- route.
 abbrev pub solution_text : Form → Instance → List (List ℕ) → Verdict → List ℕ
 solution_text form p routes verdict = solution_timetable_text form p routes (unplanned_names p routes) verdict
 
--- The timetable of two examined texts. It is empty if one of them is refused.
+-- The text of the timetable of two examined files. It is empty if one of them is refused.
 abbrev pub IsTimetableOf : Form → Examination → List ℕ → Type 0
 IsTimetableOf form (BadInstance fault) text = text ≡ []
 IsTimetableOf form (BadSolution fault) text = text ≡ []
 IsTimetableOf form (Judged problem plan verdict) text = text ≡ solution_text form problem plan.routes verdict
 
--- The answer of the audit for two examined texts, and the timetable.
+-- The report on two examined files: the answer of the audit and the timetable. It names no request as left out.
 pub record IsWholeReport (form : Form) (examined : Examination) (reported : TimetableReport) : Type 0 where
   pub answers : reported.explanation.answer ≡ answer_of examined
   pub tells : IsTimetableOf form examined (string_bytes reported.explanation.text)
   pub none_left : reported.left_out.items ≡ []
 
--- The answer for a partial plan, the timetable, and the requests that are left out.
+-- The report on a partial plan: its own answer, the timetable, and the requests that are left out.
 pub record IsPartialReport (form : Form) (partial : PartialPlan) (reported : TimetableReport) : Type 0 where
   pub answers : reported.explanation.answer ≡ partial_answer partial.cost
   pub tells : string_bytes reported.explanation.text ≡ plan_text form partial.problem [] partial.plan.routes
   pub left : reported.left_out.items ≡ unplanned_names partial.problem partial.plan.routes
 
+-- The report on two files, of which the second may be a partial plan.
 abbrev pub IsReport : Form → PlanExamination → TimetableReport → Type 0
 IsReport form (Whole examined) reported = IsWholeReport form examined reported
 IsReport form (Partial partial) reported = IsPartialReport form partial reported
 
--- The result of examining two texts, with their timetable.
+-- The report on the instance and the solution in two texts.
 pub record IsTimetable (format : Format) (form : Form) (instance solution : List ℕ) (reported : TimetableReport) : Type 0 where
   pub examined : PlanExamination
   pub is_examined : IsPlanExamined format instance solution examined
@@ -96,18 +99,18 @@ TimetablesFiles k form instance solution was now before after errors later statu
     TimetablesBothRead k form instance solution was now before after errors later status
     ⊎ (PrintsUnreadFile instance solution was now before after status × Appends errors later [])
 
--- A job's plan passes or is partial, with this cost, and this is its timetable.
+-- The report on a job's plan, which passes or is partial: the line with its cost, status 0, and its timetable.
 pub record IsPlanReport (form : Form) (job : JobValue) (reported : Explanation) : Type 0 where
   pub answers : reported.answer ≡ record { line = planned_text (cost_of job.problem job.plan); status = 0 }
   pub tells : string_bytes reported.text ≡ plan_text form job.problem job.pins job.plan
 
--- The timetable of a state's plan, or `no NoInstance` if nothing is loaded.
+-- The timetable of a state's plan is printed, or `no NoInstance` with status 2 if nothing is loaded.
 abbrev pub PrintsStateTimetable : Form → State → Option (List ℕ) → Option (List ℕ) → ℕ → Type 0
 PrintsStateTimetable form Empty before after status = (status ≡ 2) × Appends before after (line (codes "no NoInstance"))
 PrintsStateTimetable form (Loaded job) before after status = (made : Result Explanation AllocError) × IfOk made (IsPlanReport form job) × PrintsExplanationResult made before after status
 
 -- The store in the file is opened for reading only, and the timetable of its plan is printed, or the reason why
--- there is none. `IsShared` is the knowledge about the device over the file.
+-- there is none. `IsShared` says what is known about the device over the file.
 abbrev pub TimetablesStore : {D : Type 0} → sectors.Ghosts D → (List ℕ → D → Type 0) → List ℕ → Form → Option (List ℕ) → Option (List ℕ) → ℕ → Type 0
 TimetablesStore {D} on IsShared path form before after status =
     OpensReadOnly on IsShared path (λ looked. PrintsStateTimetable form looked.state before after status) (λ unopened. PrintsOpenFailure path unopened before after status)

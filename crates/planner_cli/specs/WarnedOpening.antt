@@ -13,7 +13,7 @@ use Rattle.command_text.specs.Answers.{line}
 use Rattle.planner_cli.specs.ReplayNotice.{AnnouncesReplay}
 use Rattle.sector_disk.specs.declared.sectors.Sectors as sectors
 
--- The first of the warnings, in the order in which `check` prints them.
+-- The first integrity warning, in the order in which `check` prints them.
 abbrev pub first_warning : IntegrityWarnings → Option IntegrityWarning
 first_warning doubts =
     if has_warning doubts HeaderLost then Some HeaderLost
@@ -22,23 +22,25 @@ first_warning doubts =
     else if has_warning doubts RecordsMixed then Some RecordsMixed
     else None
 
--- A warning as `check` names it, after the store's path; nothing if there is no warning.
+-- The line `planner: STORE: suspect WARNING`, with the store's path and the name of the warning; empty if there
+-- is no warning.
 abbrev pub warning_line : List ℕ → Option IntegrityWarning → List ℕ
 warning_line store None = []
 warning_line store (Some warning) = line (codes "planner: " ++ store ++ codes ": suspect " ++ integrity_warning_name warning)
 
--- The first warning about an image with its current header, if there is one.
+-- The first integrity warning about an image that has a valid header; `None` if there is no warning.
 abbrev pub IsFirstWarning : List ℕ → Option IntegrityWarning → Type 0
 IsFirstWarning image warning = (doubts : IntegrityWarnings) × AreWarningsOf image doubts × (warning ≡ first_warning doubts)
 
--- The first warning about an image whose store is not opened because of this fault. There is none if reading
--- the headers already met the fault.
+-- The first integrity warning about an image whose store is not opened because of this fault; `None` also if the
+-- fault came up while the headers were read.
 abbrev pub IsWarningOfImage : List ℕ → StoreFault → Option IntegrityWarning → Type 0
 IsWarningOfImage image fault warning = IsFirstWarning image warning ⊎ ((warning ≡ None) × UnlessReadFailed (HasNoHeader version_2 image) fault)
 
 module _ {D : Type 0} (on : sectors.Ghosts D) where
-  -- The warning was printed first, if there is one, and then the number of search steps to replay. If the
-  -- device is honest, both are the right ones. `after` is the device as the opening leaves it.
+  -- The line of the warning was printed first, if there is one, and then the number of search steps to replay. If
+  -- the device is honest, `IsMeant` holds for the warning and `AreMeant` for the number. `after` is the device as
+  -- the opening leaves it.
   pub record IsWarned (after : D) (store : List ℕ) (IsMeant : Option IntegrityWarning → Type 0) (AreMeant : ℕ → Type 0) (before later : Option (List ℕ)) : Type 0 where
     pub warning : Option IntegrityWarning
     pub warned : Option (List ℕ)

@@ -6,7 +6,7 @@ ghost use Rattle.file_disk.specs.DeviceFiles.{IsOpenedExistingAt};
 ghost use Rattle.command_server.specs.TrackedStream.{held};
 ghost use Rattle.planner_cli.specs.Adopt.{AdoptsText, AdoptsStore, FindsPlan, AdoptsSolution, adopt_status, refusal_status, adopt_refusal_status, adopt_refusal_text, assignment_fault_status};
 ghost use Rattle.planner_cli.specs.Messages.{PrintsAnswer, PrintsText};
-ghost use Rattle.command_text.specs.Answers.{line, unseated_text};
+ghost use Rattle.command_text.specs.Answers.{line, assignment_fault_text};
 ghost use Rattle.auditor_cli.specs.Reads.{IsRead};
 
 use crate::messages::{denial_status, print_denial, print_done, print_line};
@@ -18,7 +18,7 @@ use command_server::FailureTracking;
 use command_text::Answer;
 use file_disk::{DeviceFiles, FileAssumptions, FileCalls, FileDevice, FileRequest, HostFile};
 use plan_types::Plan;
-use recover::{Denial, Opened, Session};
+use recover::{Denial, OpenedStore, Session};
 use sector_disk::Sectors;
 use std::alloc::Global;
 use std::io;
@@ -82,14 +82,14 @@ fn adopt_store<R, X: DeviceFiles, T: FileAssumptions, W: Write, E: Write>(
 where
     R: Eprint + AllocGlobal,
     ensures status { IfOk result.0 (λ status. status ≤ 4) }
-    ensures asks { X.requested disks.new ≡ (FileRequest.OpenExisting, store.now) ∷ X.requested disks.old }
+    ensures requests { X.requested disks.new ≡ (FileRequest.OpenExisting, store.now) ∷ X.requested disks.old }
     ensures adopts { AdoptsStore ⟦<FileDevice<T> as Sectors>⟧
         (IsOpenedExistingAt ⟦<HostFile as FileCalls>⟧.entries) store.now text.now
         (held W.contents output.old) (held W.contents output.new) result.0 result.1 }
 {
     match open_store(rt, disks, start, store, errors) {
         Ok(opened) => {
-            let Opened { mut session, .. } = opened;
+            let OpenedStore { mut session, .. } = opened;
             let reported = adopt_text(rt, rt.alloc(), &mut session, text, output);
             let device = close_store(rt, store, session);
             (reported, Some(device))
@@ -110,7 +110,7 @@ fn adopt_text<R: Eprint, D: Sectors, W: Write>(
     ensures adopts { AdoptsText D.Sectors session.old text.now
         (held W.contents output.old) (held W.contents output.new) session.new result }
 {
-    // A solution that passes the audit also passes with the pins, so the store accepts it as a plan.
+    // A solution that passes the audit also passes with the pins, so its plan is not refused as `NotAPlan`.
     assigned_plans_pass();
     match plan_of_text(alloc, session.state(), text) {
         Ok(plan) => {
@@ -124,8 +124,7 @@ fn adopt_text<R: Eprint, D: Sectors, W: Write>(
     }
 }
 
-// Returns the plan that the solution describes for the state's problem and pins, or the reason why there is
-// none.
+// Returns the plan that the solution describes for the state's problem and pins, or the reason why there is none.
 fn plan_of_text(alloc: Global, state: &State, text: &[u8]) -> Result<Plan, AdoptRefusal>
     ensures { FindsPlan state.now text.now result }
 {
@@ -156,9 +155,9 @@ fn print_adopt_refusal<W: Write>(output: &mut W, unadopted: AdoptRefusal) -> io:
     }
 }
 
-// Prints the reason in the words of the command `adopt` of `run`.
+// Prints the line that the command `adopt` of `run` also prints for this reason.
 fn print_assignment_fault<W: Write>(output: &mut W, unseated: AssignmentFault) -> io::Result<u8>
-    ensures { PrintsText (line (unseated_text unseated)) (assignment_fault_status unseated)
+    ensures { PrintsText (line (assignment_fault_text unseated)) (assignment_fault_status unseated)
         (W.contents output.old) (W.contents output.new) result }
 {
     let reported = Answer::AssignmentFault(unseated).line();

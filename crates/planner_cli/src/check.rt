@@ -28,7 +28,7 @@ pub(crate) fn check_store<R, X: DeviceFiles, T: FileAssumptions, W: Write, E: Wr
 where
     R: Eprint + AllocGlobal,
     ensures status { IfOk result (λ status. status ≤ 4) }
-    ensures asks { X.requested disks.new ≡ (FileRequest.OpenReadOnly, store.now) ∷ X.requested disks.old }
+    ensures requests { X.requested disks.new ≡ (FileRequest.OpenReadOnly, store.now) ∷ X.requested disks.old }
     ensures reported { IfOk result (ChecksStore ⟦<FileDevice<T> as Sectors>⟧
         (IsOpenedReadOnlyAt ⟦<HostFile as FileCalls>⟧.entries) store.now
         (W.contents output.old) (W.contents output.new)) }

@@ -144,7 +144,7 @@ fn draw_partial(
     }
 }
 
-// Draws two texts that were examined.
+// Draws two examined files, or returns the answer of the audit if one of them is refused.
 fn draw_examined(
     alloc: Global,
     route: Option<u32>,
@@ -193,8 +193,8 @@ fn draw_one_route(
 }
 
 /// Draws the plan of the store in the file, or only the route of the vehicle with this number. The store is
-/// opened for reading only. The picture goes to `output`, everything else to `errors`; how many search steps are
-/// replayed is printed first.
+/// opened for reading only. The picture goes to `output`, everything else to `errors`, beginning with the number
+/// of search steps that are replayed.
 pub(crate) fn draw_store<R, X: DeviceFiles, T: FileAssumptions, W: Write, E: Write>(
     rt: &R,
     disks: &mut X,
@@ -207,7 +207,7 @@ pub(crate) fn draw_store<R, X: DeviceFiles, T: FileAssumptions, W: Write, E: Wri
 where
     R: Eprint + AllocGlobal,
     ensures status { IfOk result (λ status. status ≤ 4) }
-    ensures asks { X.requested disks.new ≡ (FileRequest.OpenReadOnly, store.now) ∷ X.requested disks.old }
+    ensures requests { X.requested disks.new ≡ (FileRequest.OpenReadOnly, store.now) ∷ X.requested disks.old }
     ensures reported { IfOk result (DrawsStore ⟦<FileDevice<T> as Sectors>⟧
         (IsOpenedReadOnlyAt ⟦<HostFile as FileCalls>⟧.entries) store.now route
         (W.contents output.old) (W.contents output.new)

@@ -3,12 +3,13 @@ ghost use Rattle.std.specs.Prelude.{◌≡◌, None};
 ghost use Rattle.std.specs.Io.{ReadsAtMost, WritesAtMost};
 ghost use Rattle.std.specs.Io.KnownBytes.{Keeps, ReadConsumes, WriteAppends};
 ghost use Rattle.std.specs.IoError.{error_kind};
-ghost use Rattle.planner_cli.specs.ErrorCapture.{cause_after, is_interrupted};
+ghost use Rattle.planner_cli.specs.ErrorCapture.{cause_after};
 
 use crate::messages::report_cause;
 use crate::program::Streams;
 use std::io;
-use std::io::{ErrorKind, Read, Write};
+use std::io::{Read, Write};
+use system_calls::is_interruption;
 
 /// A reader or a writer that keeps the system's error of its last failed call. Interrupted calls do not count.
 #[derive(Drop)]
@@ -34,7 +35,7 @@ impl<T> ErrorCapture<T> {
     }
 }
 
-/// Forwards each call.
+/// Forwards each call, and keeps the error of a failed one.
 impl<R: Read> Read for ErrorCapture<R> {
     ghost remaining = { λ r. R.remaining r.inner };
 
@@ -50,7 +51,7 @@ impl<R: Read> Read for ErrorCapture<R> {
     }
 }
 
-/// Forwards each call.
+/// Forwards each call, and keeps the error of a failed one.
 impl<W: Write> Write for ErrorCapture<W> {
     ghost contents = { λ w. W.contents w.inner };
 
@@ -82,22 +83,12 @@ fn cause_after<T>(cause: Option<io::Error>, outcome: &io::Result<T>) -> Option<i
     match outcome {
         Ok(_) => cause,
         Err(error) => {
-            if is_interrupted(error.kind()) {
+            if is_interruption(error.kind()) {
                 cause
             } else {
                 Some(*error)
             }
         }
-    }
-}
-
-// Returns whether a signal interrupted the call, so that it is made again.
-fn is_interrupted(kind: ErrorKind) -> bool
-    ensures { result ≡ is_interrupted kind }
-{
-    match kind {
-        ErrorKind::Interrupted => true,
-        _ => false,
     }
 }
 

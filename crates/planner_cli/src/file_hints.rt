@@ -13,18 +13,18 @@ use sector_disk::{SECTOR_SIZE, Sectors};
 // The first bytes of each header.
 const MAGIC: [u8; 8] = *b"PDRSTORE";
 
-/// The kinds of file that hold no valid header.
+/// The kind of a file that holds no valid header, judged by its length and its first two sectors.
 #[derive(Clone, Copy)]
 enum FileKind {
-    /// A file that begins like a store but is shorter than one.
+    /// A file with a sector that begins like a header, but shorter than a store.
     Truncated,
-    /// A file that begins like a store and is as long as one.
+    /// A file with a sector that begins like a header, and at least as long as a store.
     Header,
     /// An empty file.
     Empty,
-    /// A file with zeros in place of the headers.
+    /// A file whose first two sectors have only zeros.
     Zeros,
-    /// A file that begins as text.
+    /// A file whose first sector has only bytes of text.
     Text,
     /// A file of any other kind.
     Unrecognized,
@@ -111,6 +111,7 @@ pub(crate) fn report_upgrade_hint<R: Eprint>(rt: &R, path: &str, fault: StoreFau
     }
 }
 
+// Returns the kind of the device's file. Reads at most two sectors.
 fn file_kind_of<D: Sectors>(device: &mut D) -> FileKind
     ensures { IsReadAtMost D.Sectors device.old device.new }
 {
@@ -133,7 +134,7 @@ fn kind_of_sectors(first: Content, second: Content, is_short: bool) -> FileKind 
     }
 }
 
-// Returns the content of this sector of the device, as far as it can be read.
+// Returns the content of this sector of the device, or `Other` if there is no such sector or it can't be read.
 fn content_at<D: Sectors>(device: &mut D, index: u64) -> Content
     ensures { IsReadAtMost D.Sectors device.old device.new }
 {

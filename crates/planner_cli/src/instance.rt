@@ -1,5 +1,4 @@
-//! The subcommand `instance`: the instance that a store holds, in the format for it. The store is opened for
-//! reading only.
+//! The subcommand `instance`: prints the instance that a store holds. The store is opened for reading only.
 ghost use Rattle.std.specs.Prelude.{◌≡◌, ◌≤◌, ◌∷◌, IfOk, OnOk};
 ghost use Rattle.std.specs.Io.KnownBytes.{Appends};
 ghost use Rattle.file_disk.specs.DeviceFiles.{IsOpenedReadOnlyAt};
@@ -31,7 +30,7 @@ pub(crate) fn write_store<R, X: DeviceFiles, T: FileAssumptions, W: Write, E: Wr
 where
     R: Eprint + AllocGlobal,
     ensures status { IfOk result (λ status. status ≤ 4) }
-    ensures asks { X.requested disks.new ≡ (FileRequest.OpenReadOnly, store.now) ∷ X.requested disks.old }
+    ensures requests { X.requested disks.new ≡ (FileRequest.OpenReadOnly, store.now) ∷ X.requested disks.old }
     ensures reported { IfOk result (WritesStore ⟦<FileDevice<T> as Sectors>⟧
         (IsOpenedReadOnlyAt ⟦<HostFile as FileCalls>⟧.entries) store.now
         (W.contents output.old) (W.contents output.new) (E.contents errors.new)) }
@@ -67,7 +66,7 @@ fn write_state<W: Write, E: Write>(
     }
 }
 
-// Prints the problem in the format for it, or that the format can't express it.
+// Prints the problem in the format for it, or `no NoFormat` if that format can't express it.
 fn write_problem<W: Write, E: Write>(
     alloc: Global,
     problem: &Problem,
@@ -85,7 +84,7 @@ fn write_problem<W: Write, E: Write>(
     Ok(REFUSED)
 }
 
-// Prints a problem that its format can express, or that memory ran out.
+// Prints a problem that its format can express, and on `errors` the KIND of the text; or that memory ran out.
 fn write_text<W: Write, E: Write>(
     alloc: Global,
     problem: &Problem,
@@ -106,7 +105,7 @@ fn write_text<W: Write, E: Write>(
     }
 }
 
-// Names the KIND of the text that is printed.
+// Prints the KIND of the text.
 fn print_kind<E: Write>(format: Format, errors: &mut E) -> io::Result<()>
     ensures { OnOk result (Appends (E.contents errors.old) (E.contents errors.new)
         (kind_line format)) }

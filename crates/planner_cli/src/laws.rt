@@ -9,9 +9,9 @@ use command_text::texts_have_a_reading;
 use recover::recovery_keeps_every_acknowledged_command;
 use sector_disk::Sectors;
 
-/// Proves the recovery of `run`. Let it crash at any moment, whatever the device keeps. Opening the device then
-/// recovers the state after a prefix of the commands that the run kept, with every acknowledged command and at
-/// most one more.
+/// Proves the recovery of `run`. Let a run crash at any moment, whatever the device keeps. Opening the device
+/// then recovers the state after a prefix of the commands that the run kept, with every acknowledged command and
+/// at most one more.
 ///
 /// A command counts as acknowledged as soon as its answer is written to the output, so every `ok` or `at` that
 /// was flushed is covered. For crashes after the opening this holds whatever crash images were possible before,
@@ -42,7 +42,7 @@ pub fn crashed_runs_are_linked<D: Sectors, E: Sectors>()
 
 /// Proves that `ok` is durable. After a crash at any moment when at least one byte of `ok` was written, the
 /// device holds the store that `format` or `upgrade` made, or the state after the command of `load` or `adopt`.
-/// Every flushed byte was written before.
+/// Each byte that is flushed was written before, so the law also covers flushed bytes.
 pub fn printed_ok_is_durable<D: Sectors>()
     ensures made { OkFollowsFormat D.Sectors }
     ensures done { OkFollowsCommand D.Sectors }

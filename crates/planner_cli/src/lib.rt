@@ -2,9 +2,9 @@
 //! combines `command_line` (arguments), `command_server` (the commands of `run`) and `auditor_cli` (the
 //! subcommands `audit`, `audits` and `explain`).
 //!
-//! The entry function is `run_args`, called by the crate `planner`. Its caller passes everything that touches
-//! the system: what opens store files, what reads and makes other files, and the streams. Each subcommand is
-//! one function that is generic over these. `audit_text`, re-exported from `auditor_cli`, audits two texts in
+//! The entry function is `run_args`, called by the crate `planner`. Its caller passes everything that touches the
+//! system: the opener of store files, the reader and the maker of other files, and the streams. Each subcommand
+//! is one function that is generic over these. `audit_text`, re-exported from `auditor_cli`, audits two texts in
 //! memory.
 //!
 //! Source: this project's own; status 64 is `EX_USAGE` of BSD's `sysexits.h`.

@@ -1,4 +1,4 @@
-//! The lines about stores and their files, and the status that goes with each.
+//! The lines about stores and their files, and the exit status for each.
 ghost use Rattle.std.specs.Prelude.{◌≡◌, ◌++◌, IfErr, IfOk, OnOk};
 ghost use Rattle.std.specs.Io.KnownBytes.{Appends};
 ghost use Rattle.planner_cli.specs.ReplayNotice.{repeating_line};
@@ -29,7 +29,7 @@ fn put<W: Write>(output: &mut W, text: &[u8]) -> io::Result<()>
     }
 }
 
-/// Prints a line and returns its status.
+/// Prints a line and returns `status`.
 pub(crate) fn print_line<W: Write>(output: &mut W, text: &[u8], status: u8) -> io::Result<u8>
     ensures { PrintsText (line text.now) status
         (W.contents output.old) (W.contents output.new) result }
@@ -39,7 +39,7 @@ pub(crate) fn print_line<W: Write>(output: &mut W, text: &[u8], status: u8) -> i
     Ok(status)
 }
 
-// Prints a line that consists of a prefix and a name.
+// Prints a line that consists of a prefix and a name, and returns `status`.
 fn print_named<W: Write>(output: &mut W, front: &[u8], name: &str, status: u8) -> io::Result<u8>
     ensures { PrintsText (line (front.now ++ name.now)) status
         (W.contents output.old) (W.contents output.new) result }
@@ -143,8 +143,8 @@ pub(crate) fn print_repeating<E: Write>(steps: u64, errors: &mut E) -> io::Resul
     writeln!(errors, "planner: repeating {steps} search steps")
 }
 
-// Prints `ok` for a store that was made on the device. The write is recorded with the number of device calls
-// that had finished.
+// Prints `ok` for a store that was made on the device. Contracts see how many device calls had finished at this
+// write.
 fn print_made<D: Sectors, W: Write>(output: &mut FailureTracking<W>, device: &D) -> io::Result<u8>
     ensures { PrintsOk (D.calls device.now)
         (held W.contents output.old) (held W.contents output.new) result }
@@ -155,8 +155,7 @@ fn print_made<D: Sectors, W: Write>(output: &mut FailureTracking<W>, device: &D)
     }
 }
 
-/// Prints `ok` for a command of the session. The write is recorded with the number of device calls that had
-/// finished.
+/// Prints `ok` for a command of the session. Contracts see how many device calls had finished at this write.
 pub(crate) fn print_done<D: Sectors, W: Write>(
     output: &mut FailureTracking<W>,
     session: &Session<D>,
@@ -170,7 +169,7 @@ pub(crate) fn print_done<D: Sectors, W: Write>(
     }
 }
 
-/// Prints the result of formatting the device.
+/// Prints `ok` if the device was formatted, and otherwise the fault.
 pub(crate) fn print_format_result<D: Sectors, W: Write>(
     output: &mut FailureTracking<W>,
     device: &D,
@@ -185,7 +184,7 @@ pub(crate) fn print_format_result<D: Sectors, W: Write>(
     }
 }
 
-/// Prints the result of making the new store of an upgrade on the device.
+/// Prints `ok` if the new store of an upgrade was made on the device, and otherwise the fault.
 pub(crate) fn print_upgrade_result<D: Sectors, W: Write>(
     output: &mut FailureTracking<W>,
     device: &D,
@@ -236,7 +235,7 @@ fn open_failure_status(fault: StoreFault) -> u8
     }
 }
 
-/// Prints the answer of the session to a command.
+/// Prints `ok` for a command of the session, or why it was denied.
 pub(crate) fn print_answer<D: Sectors, W: Write>(
     output: &mut FailureTracking<W>,
     session: &Session<D>,
@@ -271,7 +270,7 @@ fn is_device_fault(denial: Denial) -> bool
     }
 }
 
-/// Returns the status of a denied command.
+/// Returns the exit status for a denied command.
 pub(crate) fn denial_status(denial: Denial) -> u8
     ensures { result ≡ denial_status denial }
 {

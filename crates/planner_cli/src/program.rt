@@ -1,7 +1,7 @@
 //! Executes a command line: reads and makes files, and prints answers.
 //!
-//! `main` makes everything that touches the system and passes it to `run_args`: what opens store files, what
-//! reads and makes other files, and the streams. It also passes values of `T: FileAssumptions` and `U:
+//! `main` makes everything that touches the system and passes it to `run_args`: the opener of store files, the
+//! reader and the maker of other files, and the streams. It also passes values of `T: FileAssumptions` and `U:
 //! FileAssumptions`. They stand for the contents of the files of the old and of the new store when they are
 //! opened.
 ghost use Rattle.std.specs.Prelude.{◌≡◌, ◌≤◌, ◌∷◌, IfOk, drop, map};
@@ -35,7 +35,7 @@ use std::convert::AsStr;
 use std::io;
 use std::io::{Read, Write};
 
-/// The streams of the program: `input` for commands, `output` for answers, and `errors` for everything else.
+/// The streams of the program: `input` for commands, `output` for answers, and `errors` for messages to people.
 #[derive(Drop)]
 pub struct Streams<I, W, E> {
     pub input: FailureTracking<I>,
@@ -306,7 +306,7 @@ fn run_subcommand<R, X: DeviceFiles, T: FileAssumptions, I: Read, W: Write, E: W
 where
     R: Eprint + AllocGlobal,
     ensures status { IfOk result.0 (λ status. status ≤ 4) }
-    ensures asks { X.requested disks.new ≡ (FileRequest.OpenExisting, store.now) ∷ X.requested disks.old }
+    ensures requests { X.requested disks.new ≡ (FileRequest.OpenExisting, store.now) ∷ X.requested disks.old }
     ensures runs { IfOk result.0 (RunsStore ⟦<FileDevice<T> as Sectors>⟧
         (IsOpenedExistingAt ⟦<HostFile as FileCalls>⟧.entries) store.now is_strict
         (given_by I.remaining streams.input result.1.input) (held W.contents streams.output)

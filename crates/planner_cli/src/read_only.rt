@@ -48,7 +48,7 @@ pub(crate) fn open_read_only<R: AllocGlobal, X: DeviceFiles, T: FileAssumptions,
     store: &str,
     errors: &mut E,
 ) -> Result<ReadOnlyStore<FileDevice<T>>, OpenFailure<FileDevice<T>>>
-    ensures asks { X.requested disks.new ≡ (FileRequest.OpenReadOnly, store.now) ∷ X.requested disks.old }
+    ensures requests { X.requested disks.new ≡ (FileRequest.OpenReadOnly, store.now) ∷ X.requested disks.old }
     ensures looks { IsReadOnlyOpening ⟦<FileDevice<T> as Sectors>⟧
         (IsOpenedReadOnlyAt ⟦<HostFile as FileCalls>⟧.entries) store.now result }
     ensures announced { IfErr result (λ unopened. MayAnnounceReplay unopened

@@ -4,7 +4,7 @@ ghost use Rattle.std.specs.Io.KnownBytes.{Appends};
 ghost use Rattle.command_line.specs.Invocations.{task_of};
 ghost use Rattle.request_explanation.specs.Why.{reason_text};
 ghost use Rattle.request_explanation.specs.declared.line_prefixes.LinePrefix.TheVariants.{Named};
-ghost use Rattle.planner_cli.specs.Solve.{PrintsSolveFault, PrintsPlan, PrintsReasons, PrintsSolveResult, SolvesInstance, left_out_text, unplanned_line};
+ghost use Rattle.planner_cli.specs.Solve.{PrintsSolveFault, PrintsPlan, PrintsReasons, PrintsSolveResult, SolvesInstance, left_out_text, route_count_text, unplanned_line};
 ghost use Rattle.auditor_cli.specs.Reads.{IsRead};
 
 use auditor_cli::status::{BROKEN, DONE, REFUSED};
@@ -13,8 +13,9 @@ use command_core::Job;
 use command_line::SolveArgs;
 use plan_audit::{passing_is_local, plans_are_disjoint_routes};
 use plan_solve::{SolveFault, SolvedPlan, solve};
-use plan_types::OutOfMemory;
+use plan_types::{Kind, OutOfMemory};
 use request_explanation::{LinePrefix, reason};
+use route_sched::used_count;
 use std::alloc::Global;
 use std::io;
 use std::io::Write;
@@ -72,7 +73,8 @@ fn print_solve_result<W: Write, E: Write>(
     }
 }
 
-// Prints the plan as solution text, then the requests that it leaves out, with the reasons.
+// Prints the plan as solution text; then the number of its routes, if its cost does not have it, and the requests
+// that it leaves out, with the reasons.
 fn print_plan<W: Write, E: Write>(
     alloc: Global,
     solved: &SolvedPlan,
@@ -85,6 +87,7 @@ fn print_plan<W: Write, E: Write>(
         (E.contents errors.old) (E.contents errors.new)) }
 {
     write_flushed(output, &solved.text)?;
+    print_route_count(&solved.job, errors)?;
     if solved.unplanned.is_empty() {
         return Ok(DONE);
     }
@@ -98,6 +101,20 @@ fn write_flushed<W: Write>(output: &mut W, text: &[u8]) -> io::Result<()>
 {
     output.write_all(text)?;
     output.flush()
+}
+
+// Prints `routes N`, the number of routes that a plan of kind `Vrp` uses.
+fn print_route_count<E: Write>(job: &Job, errors: &mut E) -> io::Result<()>
+    ensures { OnOk result (Appends (E.contents errors.old) (E.contents errors.new)
+        (route_count_text job.now.problem.kind job.now.plan)) }
+{
+    match job.problem.kind {
+        Kind::LiLim => Ok(()),
+        Kind::Vrp => {
+            let count = used_count(job.plan.routes.as_slice());
+            writeln!(errors, "routes {count}")
+        }
+    }
 }
 
 // Prints for each of these requests the reason why it is in no route of the plan. Each reason is written as
@@ -133,7 +150,7 @@ fn reason_of(alloc: Global, job: &Job, name: u32) -> Result<String, OutOfMemory>
     reason(alloc, LinePrefix::Named, &job.problem, pins, routes, name)
 }
 
-/// Prints which requests are left out, if any.
+/// Prints the line of the requests that are left out; nothing if there are none.
 pub(crate) fn print_left_out<E: Write>(errors: &mut E, names: &[u32]) -> io::Result<()>
     ensures { OnOk result (Appends (E.contents errors.old) (E.contents errors.new)
         (left_out_text names.now)) }
@@ -144,7 +161,7 @@ pub(crate) fn print_left_out<E: Write>(errors: &mut E, names: &[u32]) -> io::Res
     print_unplanned(errors, names)
 }
 
-/// Prints `unplanned N: R1 R2 ..`.
+/// Prints `unplanned N: R1 R2 ..`, with the number and the names of these requests.
 pub(crate) fn print_unplanned<E: Write>(errors: &mut E, names: &[u32]) -> io::Result<()>
     ensures { OnOk result (Appends (E.contents errors.old) (E.contents errors.new)
         (unplanned_line names.now)) }
@@ -157,7 +174,7 @@ pub(crate) fn print_unplanned<E: Write>(errors: &mut E, names: &[u32]) -> io::Re
     errors.write_all(b"\n")
 }
 
-/// Prints why there is no plan.
+/// Prints why there is no plan, and returns the exit status.
 pub(crate) fn print_solve_fault<E: Write>(fault: SolveFault, errors: &mut E) -> io::Result<u8>
     ensures status { IfOk result (λ status. status ≤ 4) }
     ensures reported { IfOk result (PrintsSolveFault fault (E.contents errors.old) (E.contents errors.new)) }

@@ -1,7 +1,8 @@
 //! The subcommand `solves`: solves a list of instances, each into a file of its own.
 //!
 //! If a file already exists at the path of a solution, a line says so before the instance is read, so that no
-//! search is wasted. A plan is audited before it is written, so that its audit can always be printed.
+//! search is wasted. A plan is audited before it is written, so that the audit of a written plan can always be
+//! printed, even if memory is short.
 ghost use Rattle.std.specs.Prelude.{◌≤◌, IfOk};
 ghost use Rattle.command_line.specs.Invocations.{tasks_of};
 ghost use Rattle.auditor_cli.specs.Audits.{PrintsLine, PrintsLines};
@@ -49,7 +50,7 @@ pub(crate) fn solve_list<F: ReadFiles, N: WriteFiles, W: Write, E: Write>(
     }
 }
 
-// The values that stay the same from line to line.
+// The arguments of `solves`, which are the same for every line of the list.
 #[derive(Clone, Copy)]
 struct Solver<'a> {
     alloc: Global,
@@ -57,7 +58,7 @@ struct Solver<'a> {
 }
 
 impl Solver<'_> {
-    // Solves the instance of each line, and prints the result before it goes on to the next line.
+    // Solves the instances of the lines one by one, and prints each result before the next search begins.
     fn solve_lines<F: ReadFiles, N: WriteFiles, W: Write, E: Write>(
         &self,
         lines: Lines<'_>,
@@ -190,7 +191,7 @@ impl Solver<'_> {
         )
     }
 
-    // Writes the plan that was found and prints its audit, or prints why there is none.
+    // Writes the plan that was found and prints its line, or prints why there is none.
     fn place<N: WriteFiles, W: Write>(
         &self,
         instance: &[u8],

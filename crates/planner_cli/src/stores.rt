@@ -29,7 +29,7 @@ use checkpoint::{FormatFault, Place, SECTORS, format, format_with};
 use command_core::State;
 use command_server::{FailedAnswer, FailureTracking, ServeFault, StrictWriter, serve_source};
 use file_disk::{DeviceFiles, FileAssumptions, FileCalls, FileDevice, FileRequest, HostFile};
-use recover::{Opened, Session, read_version_1};
+use recover::{OpenedStore, Session, read_version_1};
 use sector_disk::Sectors;
 use std::alloc::Global;
 use std::io;
@@ -46,7 +46,7 @@ pub(crate) fn format_store<R, X: DeviceFiles, T: FileAssumptions, W: Write>(
 where
     R: Eprint + AllocGlobal,
     ensures status { IfOk result.0 (λ status. status ≤ 4) }
-    ensures asks { X.requested disks.new ≡ (FileRequest.Create, store.now) ∷ X.requested disks.old }
+    ensures requests { X.requested disks.new ≡ (FileRequest.Create, store.now) ∷ X.requested disks.old }
     ensures formats { FormatsStore ⟦<FileDevice<T> as Sectors>⟧
         (IsCreatedAt ⟦<HostFile as FileCalls>⟧.entries) store.now
         (held W.contents output.old) (held W.contents output.new) result.0 result.1 }
@@ -87,7 +87,7 @@ pub(crate) fn run_store<R, X: DeviceFiles, T: FileAssumptions, I: Read, W: Write
 where
     R: Eprint + AllocGlobal,
     ensures status { IfOk result.0 (λ status. status ≤ 4) }
-    ensures asks { X.requested disks.new ≡ (FileRequest.OpenExisting, store.now) ∷ X.requested disks.old }
+    ensures requests { X.requested disks.new ≡ (FileRequest.OpenExisting, store.now) ∷ X.requested disks.old }
     ensures runs { IfOk result.0 (RunsStore ⟦<FileDevice<T> as Sectors>⟧
         (IsOpenedExistingAt ⟦<HostFile as FileCalls>⟧.entries) store.now is_strict
         (given_by I.remaining input.old input.new)
@@ -101,7 +101,7 @@ where
 {
     match open_with_warning(rt, disks, start, store, errors) {
         Ok(opened) => {
-            let Opened {
+            let OpenedStore {
                 mut session,
                 replayed,
             } = opened;
@@ -267,7 +267,7 @@ fn make_new_store<R, X: DeviceFiles, U: FileAssumptions, W: Write>(
 where
     R: Eprint + AllocGlobal,
     ensures status { IfOk result.0 (λ status. status ≤ 4) }
-    ensures asks { X.requested disks.new ≡ (FileRequest.Create, new.now) ∷ X.requested disks.old }
+    ensures requests { X.requested disks.new ≡ (FileRequest.Create, new.now) ∷ X.requested disks.old }
     ensures makes { MakesStoreAt ⟦<FileDevice<U> as Sectors>⟧
         (IsCreatedAt ⟦<HostFile as FileCalls>⟧.entries) state.now new.now
         (λ made calls. PrintsFormatResult new_format_fault_line made calls
@@ -341,7 +341,7 @@ fn print_opened<W: Write>(replayed: u64, output: &mut W) -> io::Result<()>
     output.flush()
 }
 
-/// The result of serving an input, and the output as it is left.
+/// The result of serving an input, and the output afterwards.
 #[derive(Drop)]
 struct ServeOutcome<W: Write> {
     served: Result<(), ServeFault>,
@@ -350,7 +350,7 @@ struct ServeOutcome<W: Write> {
     output: FailureTracking<W>,
 }
 
-// Serves the input.
+// Serves the input, strictly if `is_strict`.
 fn serve_input<R: Eprint, D: Sectors + Drop, I: Read, W: Write>(
     rt: &R,
     alloc: Global,
@@ -397,7 +397,8 @@ fn serve_strictly<R: Eprint, D: Sectors + Drop, I: Read, W: Write>(
     }
 }
 
-// Returns the answer that ends a strict run, if the last answer does and the writer has not failed.
+// Returns the failure that ended a strict run: the one that the last answer reports, or `None` if that answer
+// reports none or the writer itself has failed.
 fn strict_stop<W: Write>(answers: &StrictWriter<W>) -> Option<FailedAnswer>
     ensures stop { result ≡ stop_unless_failed answers.now.writer.has_failed answers.now.reported }
     ensures last { answers.now.writer.has_failed ≡ false

@@ -39,7 +39,7 @@ pub(crate) struct TimetableReport {
     pub left_out: Vec<u32>,
 }
 
-/// Returns the form of a timetable: with tabs, or for people.
+/// Returns the form of a timetable: fields between tabs, for programs, or columns, for people.
 pub(crate) fn form_of(is_tabbed: bool) -> Form
     ensures { result ≡ form_of is_tabbed }
 {
@@ -110,7 +110,7 @@ fn timetable_texts(
     }
 }
 
-// Returns the answer and the timetable of two texts, examined as for an audit.
+// Returns the answer of the audit and the timetable of two examined files.
 fn whole_report(
     alloc: Global,
     form: Form,
@@ -147,7 +147,7 @@ fn partial_report(
     })
 }
 
-// Returns the timetable of two examined texts, which is empty if one of them is refused.
+// Returns the timetable of two examined files. It is empty if one of them is refused.
 fn timetable_of(alloc: Global, form: Form, examined: &Examination) -> Result<String, OutOfMemory>
     requires { HasVerdict examined.now }
     ensures { IfOk result (λ text. IsTimetableOf form examined.now (string_bytes text)) }
@@ -190,7 +190,7 @@ pub(crate) fn timetable_store<R, X: DeviceFiles, T: FileAssumptions, W: Write, E
 where
     R: Eprint + AllocGlobal,
     ensures status { IfOk result (λ status. status ≤ 4) }
-    ensures asks { X.requested disks.new ≡ (FileRequest.OpenReadOnly, store.now) ∷ X.requested disks.old }
+    ensures requests { X.requested disks.new ≡ (FileRequest.OpenReadOnly, store.now) ∷ X.requested disks.old }
     ensures reported { IfOk result (TimetablesStore ⟦<FileDevice<T> as Sectors>⟧
         (IsOpenedReadOnlyAt ⟦<HostFile as FileCalls>⟧.entries) store.now form
         (W.contents output.old) (W.contents output.new)) }

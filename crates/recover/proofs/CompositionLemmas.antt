@@ -8,7 +8,7 @@ use Rattle.command_types.specs.declared.states.State.{State}
 use Rattle.state_codec.specs.declared.version.Version.TheVariants.{Two}
 use Rattle.checkpoint.specs.declared.faults.StoreFault.{StoreFault}
 use Rattle.checkpoint.specs.declared.faults.StoreFault.TheVariants.{NotFormatted, BadVersion, Codec, Spent, OutOfMemory, DeviceFault}
-use Rattle.recover.specs.Replies.{kept, acked}
+use Rattle.recover.specs.Replies.{kept_commands, acknowledged_count}
 use Rattle.recover.specs.Sessions.{SessionValue}
 use Rattle.recover.specs.Opening.{Opens}
 use Rattle.recover.specs.Composition.{IsRunOn, AppliesAreRuns, RunsConcatenate, RunsCompose, IsCrashedOpening, RefusedCountAsCrashed, RefusedCanBeRetried, CrashedLeaveSameImages, HoldsAfterCrashedOpenings}
@@ -27,9 +27,9 @@ module _ {D : Type 0} (on : sectors.Ghosts D) where
   runs_join old mid new (command ∷ commands) more [] later first second = elim first [ ]
 
   pub runs_compose : ((d : D) (m : ℕ) (image : List ℕ) → on.honest d → on.possible_since d (on.clock d) m image → (m ≡ on.calls d) × on.possible d image) → RunsCompose on
-  runs_compose only_now old mid new commands more replies later first second whole honest stands =
+  runs_compose only_now old mid new commands more replies later first second whole honest recovers =
       run_leaves on.len on.calls on.faults on.honest on.clock on.possible_since on.possible only_now (commands ++ more) (replies ++ later) old new
-      (runs_join old mid new commands more replies later first second) whole stands honest
+      (runs_join old mid new commands more replies later first second) whole recovers honest
 
   pub refused_are_stopped : ((d : D) (t : ℕ) (image : List ℕ) → on.honest d → t ≤ on.clock d → on.possible d image → on.possible_since d t (on.calls d) image) → RefusedCountAsCrashed on
   refused_are_stopped counts_now device later honest moments = record {
@@ -61,5 +61,5 @@ module _ {D E : Type 0} (on : sectors.Ghosts D) (again : sectors.Ghosts E) (keep
   pub holds_over_stops : ((d : E) → again.honest d → again.possible d (again.seen d)) → HoldsAfterCrashedOpenings on again
   holds_over_stops reads_possible old new commands replies m first last left laters outcome whole honest leaves met stops here settled opens =
       let image = again.seen last in
-      let stood = stopped_leave_the_same again first last laters stops image (reads_possible last here) in
-      gives keep never_more say old.state (kept commands replies) (acked m replies) image (leaves whole honest m image (met image stood)) outcome (opens settled)
+      let recovered_before = stopped_leave_the_same again first last laters stops image (reads_possible last here) in
+      gives keep never_more say old.state (kept_commands commands replies) (acknowledged_count m replies) image (leaves whole honest m image (met image recovered_before)) outcome (opens settled)

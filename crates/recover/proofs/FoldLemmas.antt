@@ -11,11 +11,11 @@ use Rattle.recover.specs.declared.replies.Run.{Run}
 use Rattle.recover.specs.declared.rounds.Round.{Round}
 use Rattle.state_codec.specs.declared.version.Version.TheVariants.{Two}
 use Rattle.recover.specs.RecoversTo.{RecoversTo}
-use Rattle.recover.specs.Replies.{kept}
+use Rattle.recover.specs.Replies.{kept_commands}
 use Rattle.recover.specs.Sessions.{SessionValue}
 use Rattle.recover.specs.Rounds.{seen_in, AreRounds, IsMemoryOpened, EndsRounds}
 use Rattle.recover.specs.Folds.{AreCounts, recovered_commands, LeadsTo, IsFold}
-use Rattle.recover.proofs.Headlines.{passing, stands_state}
+use Rattle.recover.proofs.Headlines.{passing, recovered_is_state}
 use Rattle.recover.proofs.StepLemmas.{after-append, accepted-append}
 use Rattle.recover.proofs.RoundLemmas.{reads_possible}
 
@@ -25,33 +25,33 @@ record Folds (begun : State) (rounds : List Round) (runs : List Run) (left : Mem
   pub counts : List ℕ
   pub one_each : AreCounts rounds runs counts
   pub accepted : AreAccepted begun (recovered_commands rounds runs counts)
-  pub stands : RecoversTo Two (seen_in left) (after begun (recovered_commands rounds runs counts))
+  pub recovers : RecoversTo Two (seen_in left) (after begun (recovered_commands rounds runs counts))
 
 folds : (rounds : List Round) (runs : List Run) (device left : MemDevice) (begun : State) → AreRounds device rounds runs left → RecoversTo Two (seen_in device) begun → Folds begun rounds runs left
-folds [] [] device left begun are stands = record { counts = []; one_each = tt; accepted = tt; stands = subst (λ (d : MemDevice). RecoversTo Two (seen_in d) begun) (sym are) stands }
-folds (round ∷ rounds) (run ∷ runs) device left begun are stands =
+folds [] [] device left begun are recovers = record { counts = []; one_each = tt; accepted = tt; recovers = subst (λ (d : MemDevice). RecoversTo Two (seen_in d) begun) (sym are) recovers }
+folds (round ∷ rounds) (run ∷ runs) device left begun are recovers =
     let here = are.1 in
     let some = here.images (seen_in are.0) (reads_possible are.0) in
-    let mine : List Command = take some.count (kept round.commands.items run.replies.items) in
-    let same : here.first.state ≡ begun = here.opened.alone begun stands in
-    let rest = folds rounds runs are.0 left (after begun mine) are.2 (subst (λ (s : State). RecoversTo Two (seen_in are.0) (after s mine)) same some.stands) in
+    let mine : List Command = take some.count (kept_commands round.commands.items run.replies.items) in
+    let same : here.first.state ≡ begun = here.opened.alone begun recovers in
+    let rest = folds rounds runs are.0 left (after begun mine) are.2 (subst (λ (s : State). RecoversTo Two (seen_in are.0) (after s mine)) same some.recovers) in
     let more : List Command = recovered_commands rounds runs rest.counts in record {
       counts = some.count ∷ rest.counts;
       one_each = (record { all_acknowledged = some.all_acknowledged; one_more = some.one_more; within = some.within }, rest.one_each);
       accepted = accepted-append begun mine more (subst (λ (s : State). AreAccepted s mine) same some.accepted) rest.accepted;
-      stands = subst (λ (s : State). RecoversTo Two (seen_in left) s) (sym (after-append begun mine more)) rest.stands;
+      recovers = subst (λ (s : State). RecoversTo Two (seen_in left) s) (sym (after-append begun mine more)) rest.recovers;
     }
-folds [] (run ∷ runs) device left begun are stands = elim are [ ]
-folds (round ∷ rounds) [] device left begun are stands = elim are [ ]
+folds [] (run ∷ runs) device left begun are recovers = elim are [ ]
+folds (round ∷ rounds) [] device left begun are recovers = elim are [ ]
 
 -- the state that the device recovered to before the rounds
 record Begins (device : MemDevice) : Type 0 where
   pub begun : State
-  pub stands : RecoversTo Two (seen_in device) begun
+  pub recovers : RecoversTo Two (seen_in device) begun
 
 begins : (rounds : List Round) (runs : List Run) (device left : MemDevice) (session : SessionValue MemDevice) → AreRounds device rounds runs left → IsMemoryOpened left session → Begins device
-begins [] [] device left session are opened = record { begun = session.state; stands = subst (λ (d : MemDevice). RecoversTo Two (seen_in d) session.state) are opened.stands }
-begins (round ∷ rounds) (run ∷ runs) device left session are opened = record { begun = are.1.first.state; stands = are.1.opened.stands }
+begins [] [] device left session are opened = record { begun = session.state; recovers = subst (λ (d : MemDevice). RecoversTo Two (seen_in d) session.state) are opened.recovers }
+begins (round ∷ rounds) (run ∷ runs) device left session are opened = record { begun = are.1.first.state; recovers = are.1.opened.recovers }
 begins [] (run ∷ runs) device left session are opened = elim are [ ]
 begins (round ∷ rounds) [] device left session are opened = elim are [ ]
 
@@ -73,11 +73,11 @@ module _ (keep : RunsKeepInvariants) (never_more : PlansNeverCostMore) (one_sear
       → IsFold (seen_in device) rounds runs session.state
   is_fold device rounds runs session ends =
       let at = begins rounds runs device ends.left session ends.done ends.opened in
-      let all = folds rounds runs device ends.left at.begun ends.done at.stands in record {
+      let all = folds rounds runs device ends.left at.begun ends.done at.recovers in record {
         begun = at.begun;
-        stands = at.stands;
+        recovers = at.recovers;
         counts = all.counts;
         one_each = all.one_each;
         leads = leads_to at.begun (recovered_commands rounds runs all.counts) session.state
-            (stands_state keep never_more say (seen_in ends.left) session.state ends.opened.stands) all.accepted (ends.opened.alone _ all.stands);
+            (recovered_is_state keep never_more say (seen_in ends.left) session.state ends.opened.recovers) all.accepted (ends.opened.alone _ all.recovers);
       }

@@ -14,7 +14,7 @@ use Rattle.state_codec.specs.declared.version.Version.TheVariants.{Two}
 use Rattle.checkpoint.specs.declared.faults.StoreFault.{StoreFault}
 use Rattle.checkpoint.specs.declared.faults.StoreFault.TheVariants.{NotFormatted, BadVersion, Codec, Spent, OutOfMemory, DeviceFault}
 use Rattle.recover.specs.RecoversTo.{RecoversTo}
-use Rattle.recover.specs.Replies.{kept, acked}
+use Rattle.recover.specs.Replies.{kept_commands, acknowledged_count}
 use Rattle.recover.specs.Moments.{RecoversToPrefix}
 use Rattle.recover.specs.Opening.{ReturnsUnlessFailed, Opens}
 use Rattle.recover.specs.Headline.{HasPassingPlan, IsRecovered, Headline}
@@ -35,8 +35,8 @@ weaker P Q so (Err Spent) h = elim h [ ]
 
 module _ (keep : RunsKeepInvariants) (never_more : PlansNeverCostMore) (say : PassesDecidesTheVerdict) where
   -- a state that an image recovers to keeps its invariants
-  pub stands_state : (image : List ℕ) (state : State) → RecoversTo Two image state → IsState state
-  stands_state image state stands = subst IsState stands.leads (keep stands.snapshot stands.commands stands.holds.facts stands.accepted)
+  pub recovered_is_state : (image : List ℕ) (state : State) → RecoversTo Two image state → IsState state
+  recovered_is_state image state recovers = subst IsState recovers.leads (keep recovers.snapshot recovers.commands recovers.holds.facts recovers.accepted)
 
   pub recovered : (begun : State) (commands : List Command) (acknowledged : ℕ) (image : List ℕ) → (stop : RecoversToPrefix begun commands acknowledged image)
       → (given : State) → given ≡ after begun (take stop.count commands) → IsRecovered begun commands acknowledged given
@@ -47,7 +47,7 @@ module _ (keep : RunsKeepInvariants) (never_more : PlansNeverCostMore) (say : Pa
     within = stop.within;
     accepted = stop.accepted;
     state = same;
-    plan = passing say given (subst IsState (sym same) (stands_state image (after begun (take stop.count commands)) stop.stands));
+    plan = passing say given (subst IsState (sym same) (recovered_is_state image (after begun (take stop.count commands)) stop.recovers));
     cost = λ q from to. costs q from to;
   }
     where
@@ -63,10 +63,10 @@ module _ (keep : RunsKeepInvariants) (never_more : PlansNeverCostMore) (say : Pa
   gives begun commands acknowledged image stop outcome opens =
       weaker (λ given. given ≡ after begun (take stop.count commands)) (IsRecovered begun commands acknowledged)
       (recovered begun commands acknowledged image stop)
-      outcome (opens (after begun (take stop.count commands)) stop.stands)
+      outcome (opens (after begun (take stop.count commands)) stop.recovers)
 
   pub headline : {D E : Type 0} (on : sectors.Ghosts D) (again : sectors.Ghosts E) → Headline on again
   headline on again old new commands replies m image device left outcome whole honest leaves stopped reads settled opens =
-      gives old.state (kept commands replies) (acked m replies) (again.seen device)
-      (subst (RecoversToPrefix old.state (kept commands replies) (acked m replies)) (sym reads) (leaves whole honest m image stopped))
+      gives old.state (kept_commands commands replies) (acknowledged_count m replies) (again.seen device)
+      (subst (RecoversToPrefix old.state (kept_commands commands replies) (acknowledged_count m replies)) (sym reads) (leaves whole honest m image stopped))
       outcome (opens settled)

@@ -16,19 +16,19 @@ use Rattle.recover.specs.declared.rounds.RoundsFault.{RoundsFault}
 use Rattle.recover.specs.declared.rounds.RoundsFault.TheVariants as rounds
 use Rattle.recover.specs.declared.restarts.Restart.{Restart}
 use Rattle.recover.specs.RecoversTo.{RecoversTo}
-use Rattle.recover.specs.Replies.{kept}
+use Rattle.recover.specs.Replies.{kept_commands}
 use Rattle.recover.specs.Moments.{RecoversToPrefix}
 use Rattle.recover.specs.Sessions.{SessionValue}
 use Rattle.recover.specs.Headline.{IsRecovered}
 use Rattle.recover.specs.Links.{Restart as Link, AreLinked, LinksCompose}
 use Rattle.recover.specs.Rounds.{seen_in, count_ok, IsMemoryOpened, IsUnbegun}
 use Rattle.recover.specs.Restarts.{CarriesOut, IsRestart, IsNoRestart, AreRestarts, EndsRestarts, IsFirstOpened, AreJoined, CutsRestarts, kept_by}
-use Rattle.recover.proofs.Headlines.{recovered, stands_state}
+use Rattle.recover.proofs.Headlines.{recovered, recovered_is_state}
 use Rattle.recover.proofs.RoundLemmas.{reads_possible}
 
 -- The kept commands and the acknowledged count of each link.
-abbrev told_by : List Link → List (List Command × ℕ)
-told_by links = map (λ link. (link.commands, link.acknowledged)) links
+abbrev runs_of_links : List Link → List (List Command × ℕ)
+runs_of_links links = map (λ link. (link.commands, link.acknowledged)) links
 
 -- A run that began in this state kept these commands. The recovered ones lead to the state that the next
 -- opening returned, and so on up to the last state.
@@ -36,7 +36,7 @@ record GoesOn (begun : State) (commands : List Command) (acknowledged : ℕ) (re
   pub given : State
   pub recovered : IsRecovered begun commands acknowledged given
   pub links : List Link
-  pub one_each : told_by links ≡ kept_by restarts runs
+  pub one_each : runs_of_links links ≡ kept_by restarts runs
   pub linked : AreLinked given links last
 
 -- The first opening that succeeds recovers a state from an image that a crash may leave. The recovered commands
@@ -46,9 +46,9 @@ record Begins (first device : MemDevice) (restarts : List Restart) (runs : List 
   pub possible : MayLeave (memory first) image
   pub seen : IsFirstOpened runs → image ≡ seen_in device
   pub begun : State
-  pub stands : RecoversTo Two image begun
+  pub recovers : RecoversTo Two image begun
   pub links : List Link
-  pub one_each : told_by links ≡ kept_by restarts runs
+  pub one_each : runs_of_links links ≡ kept_by restarts runs
   pub linked : AreLinked begun links last
 
 module _ (keep : RunsKeepInvariants) (never_more : PlansNeverCostMore) (say : PassesDecidesTheVerdict) where
@@ -57,7 +57,7 @@ module _ (keep : RunsKeepInvariants) (never_more : PlansNeverCostMore) (say : Pa
       → ((image : List ℕ) → MayLeave (memory device) image → RecoversToPrefix begun commands acknowledged image) → IsMemoryOpened device session → IsRecovered begun commands acknowledged session.state
   link_to begun commands acknowledged device session images opened =
       let stop = images (seen_in device) (reads_possible device) in
-      recovered keep never_more say begun commands acknowledged (seen_in device) stop session.state (opened.alone _ stop.stands)
+      recovered keep never_more say begun commands acknowledged (seen_in device) stop session.state (opened.alone _ stop.recovers)
 
   goes_on : (restarts : List Restart) (runs : List (Result Run StoreFault)) (device left : MemDevice) (session : SessionValue MemDevice)
       → AreRestarts device restarts runs left → IsMemoryOpened left session → (begun : State) (commands : List Command) (acknowledged : ℕ)
@@ -72,7 +72,7 @@ module _ (keep : RunsKeepInvariants) (never_more : PlansNeverCostMore) (say : Pa
   goes_on (restart ∷ restarts) (Ok run ∷ runs) device left session are opened begun commands acknowledged images =
       let here = are.1 in
       let came : CarriesOut here.armed restart.commands.items run.replies.items here.handed = here.came in
-      let mine : List Command = kept restart.commands.items run.replies.items in
+      let mine : List Command = kept_commands restart.commands.items run.replies.items in
       let many : ℕ = count_ok run.replies.items in
       let rest = goes_on restarts runs are.0 left session are.2 opened came.first.state mine many (λ image possible. came.images image (here.images image possible)) in record {
         given = came.first.state;
@@ -102,7 +102,7 @@ module _ (keep : RunsKeepInvariants) (never_more : PlansNeverCostMore) (say : Pa
     possible = images (seen_in device) (reads_possible device);
     seen = λ at. refl;
     begun = session.state;
-    stands = subst (λ (d : MemDevice). RecoversTo Two (seen_in d) session.state) are opened.stands;
+    recovers = subst (λ (d : MemDevice). RecoversTo Two (seen_in d) session.state) are opened.recovers;
     links = [];
     one_each = refl;
     linked = refl;
@@ -110,14 +110,14 @@ module _ (keep : RunsKeepInvariants) (never_more : PlansNeverCostMore) (say : Pa
   begins (restart ∷ restarts) (Ok run ∷ runs) first device left session images are opened =
       let here = are.1 in
       let came : CarriesOut here.armed restart.commands.items run.replies.items here.handed = here.came in
-      let mine : List Command = kept restart.commands.items run.replies.items in
+      let mine : List Command = kept_commands restart.commands.items run.replies.items in
       let many : ℕ = count_ok run.replies.items in
       let rest = goes_on restarts runs are.0 left session are.2 opened came.first.state mine many (λ image possible. came.images image (here.images image possible)) in record {
         image = seen_in here.armed;
         possible = images (seen_in here.armed) (here.same.images.nothing_else (seen_in here.armed) (reads_possible here.armed));
         seen = λ at. here.same.seen;
         begun = came.first.state;
-        stands = came.opened.stands;
+        recovers = came.opened.recovers;
         links = (record { commands = mine; acknowledged = many; given = rest.given }) ∷ rest.links;
         one_each = ap (λ reported. (mine, many) ∷ reported) rest.one_each;
         linked = (rest.recovered, rest.linked);
@@ -130,7 +130,7 @@ module _ (keep : RunsKeepInvariants) (never_more : PlansNeverCostMore) (say : Pa
         possible = rest.possible;
         seen = λ at. elim at [ ];
         begun = rest.begun;
-        stands = rest.stands;
+        recovers = rest.recovers;
         links = rest.links;
         one_each = rest.one_each;
         linked = rest.linked;
@@ -146,11 +146,11 @@ module _ (keep : RunsKeepInvariants) (never_more : PlansNeverCostMore) (say : Pa
         possible = all.possible;
         seen = all.seen;
         begun = all.begun;
-        stands = all.stands;
+        recovers = all.recovers;
         links = all.links;
         one_each = all.one_each;
         linked = all.linked;
-        leads = lead all.begun session.state all.links (stands_state keep never_more say all.image all.begun all.stands) all.linked;
+        leads = lead all.begun session.state all.links (recovered_is_state keep never_more say all.image all.begun all.recovers) all.linked;
       }
 
 -- Restarts and one more are a longer list of restarts.

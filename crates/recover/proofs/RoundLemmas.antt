@@ -21,14 +21,14 @@ use Rattle.recover.specs.declared.rounds.Round.{Round}
 use Rattle.recover.specs.declared.rounds.RoundsFault.{RoundsFault}
 use Rattle.state_codec.specs.declared.version.Version.TheVariants.{Two}
 use Rattle.recover.specs.RecoversTo.{RecoversTo}
-use Rattle.recover.specs.Replies.{kept, acked}
+use Rattle.recover.specs.Replies.{kept_commands, acknowledged_count}
 use Rattle.recover.specs.Moments.{RecoversToPrefix, RunLeaves}
 use Rattle.recover.specs.Opening.{IsReplayed}
 use Rattle.recover.specs.Sessions.{SessionValue}
 use Rattle.recover.specs.Applying.{faults_after_answer}
 use Rattle.recover.specs.Rounds.{seen_in, IsMemoryRun, count_ok, is_device_fault, count_device_faults, IsMemoryOpened, IsSet, IsLeft, IsRound, IsUnbegun, AreRounds, CutsRounds}
 use Rattle.recover.specs.Restarts.{CarriesOut}
-use Rattle.recover.proofs.RunLemmas.{unacked, one_acked, counted_from}
+use Rattle.recover.proofs.RunLemmas.{unacknowledged, one_acknowledged, counted_from}
 
 -- The image that reads return is possible.
 pub reads_possible : (device : MemDevice) → MayLeave (memory device) (seen_in device)
@@ -52,24 +52,24 @@ faults-cons : (reply : Reply) (replies : List Reply) → count_device_faults (re
 faults-cons reply replies = sum_by-cons (λ r. cond (is_device_fault r.answer) 1 0) reply replies
 
 -- At the end of a run each command that was answered Ok is acknowledged.
-pub all_acked : (commands : List Command) (replies : List Reply) (old new : SessionValue MemDevice) → IsMemoryRun old commands replies new → acked (memory new.device).calls replies ≡ count_ok replies
-all_acked [] [] old new run = refl
-all_acked (command ∷ commands) (reply ∷ replies) old new run =
-    first reply.answer reply.calls run.1.count (all_acked commands replies run.0 new run.2) (calls_rise commands replies run.0 new run.2)
+pub all_acknowledged_counted : (commands : List Command) (replies : List Reply) (old new : SessionValue MemDevice) → IsMemoryRun old commands replies new → acknowledged_count (memory new.device).calls replies ≡ count_ok replies
+all_acknowledged_counted [] [] old new run = refl
+all_acknowledged_counted (command ∷ commands) (reply ∷ replies) old new run =
+    first reply.answer reply.calls run.1.count (all_acknowledged_counted commands replies run.0 new run.2) (calls_rise commands replies run.0 new run.2)
   where
-    first : (answer : Result (Unit {0}) Denial) (n : ℕ) → n ≡ (memory run.0.device).calls → acked (memory new.device).calls replies ≡ count_ok replies
+    first : (answer : Result (Unit {0}) Denial) (n : ℕ) → n ≡ (memory run.0.device).calls → acknowledged_count (memory new.device).calls replies ≡ count_ok replies
         → (memory run.0.device).calls ≤ (memory new.device).calls
-        → acked (memory new.device).calls (record { answer = answer; calls = n } ∷ replies) ≡ count_ok (record { answer = answer; calls = n } ∷ replies)
+        → acknowledged_count (memory new.device).calls (record { answer = answer; calls = n } ∷ replies) ≡ count_ok (record { answer = answer; calls = n } ∷ replies)
     first (Ok done) n count rest le =
         let one : Reply = record { answer = Ok done; calls = n } in
-        let now = one_acked (memory new.device).calls one replies (le-leb n (memory new.device).calls (omega (arith, count, le))) in
+        let now = one_acknowledged (memory new.device).calls one replies (le-leb n (memory new.device).calls (omega (arith, count, le))) in
         let counted = ok-cons one replies in omega (arith, now, counted, rest)
     first (Err denial) n count rest le =
         let one : Reply = record { answer = Err denial; calls = n } in
-        let now = unacked (memory new.device).calls one replies refl in
+        let now = unacknowledged (memory new.device).calls one replies refl in
         let counted = ok-cons one replies in omega (arith, now, counted, rest)
-all_acked [] (reply ∷ replies) old new run = elim run [ ]
-all_acked (command ∷ commands) [] old new run = elim run [ ]
+all_acknowledged_counted [] (reply ∷ replies) old new run = elim run [ ]
+all_acknowledged_counted (command ∷ commands) [] old new run = elim run [ ]
 
 -- Below 2^64-1 failed calls, each DeviceFault counts as one failed call.
 pub all_faults : (commands : List Command) (replies : List Reply) (old new : SessionValue MemDevice) → IsMemoryRun old commands replies new
@@ -93,9 +93,9 @@ all_faults (command ∷ commands) [] old new run below = elim run [ ]
 -- Each image that a crash at the end of a run may leave recovers to a state with all acknowledged commands.
 pub images_at_the_end : (commands : List Command) (replies : List Reply) (old new : SessionValue MemDevice) → IsMemoryRun old commands replies new
     → Throughout (λ d. clock_of (memory d)) (λ d. MayHaveLeft (memory d)) old.device new.device (RunLeaves old.state commands replies)
-    → (image : List ℕ) → MayLeave (memory new.device) image → RecoversToPrefix old.state (kept commands replies) (count_ok replies) image
+    → (image : List ℕ) → MayLeave (memory new.device) image → RecoversToPrefix old.state (kept_commands commands replies) (count_ok replies) image
 images_at_the_end commands replies old new run moments image possible =
-    subst (λ (n : ℕ). RecoversToPrefix old.state (kept commands replies) n image) (all_acked commands replies old new run)
+    subst (λ (n : ℕ). RecoversToPrefix old.state (kept_commands commands replies) n image) (all_acknowledged_counted commands replies old new run)
     (moments.each (memory new.device).calls image (counts_now new.device (clock_of (memory old.device)) image moments.later possible))
 
 -- If a session was opened from a device, so was a session that differs from it only in the failures that are
@@ -103,8 +103,8 @@ images_at_the_end commands replies old new run moments image possible =
 still_opened : (device : MemDevice) (old new : SessionValue MemDevice) → IsSameDevice (memory old.device) (memory new.device) → new.state ≡ old.state → new.place ≡ old.place
     → new.is_broken ≡ old.is_broken → IsMemoryOpened device old → IsMemoryOpened device new
 still_opened device old new same state place broken opened = record {
-  stands = subst (λ (s : State). RecoversTo Two (seen_in device) s) (sym state) opened.stands;
-  alone = λ other stands. state ∙ opened.alone other stands;
+  recovers = subst (λ (s : State). RecoversTo Two (seen_in device) s) (sym state) opened.recovers;
+  alone = λ other recovers. state ∙ opened.alone other recovers;
   whole = broken ∙ opened.whole;
   calls = same.calls ∙ opened.calls;
   faults = same.faults ∙ opened.faults;

@@ -16,21 +16,21 @@ use Rattle.recover.specs.declared.denials.Denial.{Denial}
 use Rattle.recover.specs.declared.denials.Denial.TheVariants.{Broken, Core, Spent, OutOfMemory, DeviceFault}
 use Rattle.recover.specs.declared.replies.Reply.{Reply}
 use Rattle.recover.specs.RecoversTo.{RecoversTo}
-use Rattle.recover.specs.Replies.{kept, acked, is_acknowledged}
+use Rattle.recover.specs.Replies.{kept_commands, acknowledged_count, is_acknowledged}
 use Rattle.recover.specs.Moments.{RecoversToPrefix, RunLeaves}
 use Rattle.recover.specs.Sessions.{SessionValue}
 use Rattle.recover.specs.Applying.{IsBetween, IsAnswer, Makes, denial, calls_of, is_snapshot_due, IsApplied, IsRun}
 
 -- The number of acknowledged commands is that of the other replies, plus one if the first reply is acknowledged.
-acked-cons : (m : ℕ) (reply : Reply) (replies : List Reply) → acked m (reply ∷ replies) ≡ cond (is_acknowledged m reply) 1 0 + acked m replies
-acked-cons m reply replies = sum_by-cons (λ r. cond (is_acknowledged m r) 1 0) reply replies
+acknowledged_count-cons : (m : ℕ) (reply : Reply) (replies : List Reply) → acknowledged_count m (reply ∷ replies) ≡ cond (is_acknowledged m reply) 1 0 + acknowledged_count m replies
+acknowledged_count-cons m reply replies = sum_by-cons (λ r. cond (is_acknowledged m r) 1 0) reply replies
 
-pub unacked : (m : ℕ) (reply : Reply) (replies : List Reply) → is_acknowledged m reply ≡ false → acked m (reply ∷ replies) ≡ acked m replies
-unacked m reply replies not_yet =
-    let same : 0 + acked m replies ≡ acked m replies = omega arith in acked-cons m reply replies ∙ ap (λ (b : Bool). cond b 1 0 + acked m replies) not_yet ∙ same
+pub unacknowledged : (m : ℕ) (reply : Reply) (replies : List Reply) → is_acknowledged m reply ≡ false → acknowledged_count m (reply ∷ replies) ≡ acknowledged_count m replies
+unacknowledged m reply replies not_yet =
+    let same : 0 + acknowledged_count m replies ≡ acknowledged_count m replies = omega arith in acknowledged_count-cons m reply replies ∙ ap (λ (b : Bool). cond b 1 0 + acknowledged_count m replies) not_yet ∙ same
 
-pub one_acked : (m : ℕ) (reply : Reply) (replies : List Reply) → is_acknowledged m reply ≡ true → acked m (reply ∷ replies) ≡ 1 + acked m replies
-one_acked m reply replies is = acked-cons m reply replies ∙ ap (λ (b : Bool). cond b 1 0 + acked m replies) is
+pub one_acknowledged : (m : ℕ) (reply : Reply) (replies : List Reply) → is_acknowledged m reply ≡ true → acknowledged_count m (reply ∷ replies) ≡ 1 + acknowledged_count m replies
+one_acknowledged m reply replies is = acknowledged_count-cons m reply replies ∙ ap (λ (b : Bool). cond b 1 0 + acknowledged_count m replies) is
 
 some_calls : (place : Place) (command : Command) → 1 ≤ calls_of place command
 some_calls place command = elim (is_snapshot_due place command) as (λ b. 1 ≤ (if b then 4 else 2)) [ true ↦ omega arith | false ↦ omega arith ]
@@ -39,14 +39,14 @@ some_calls place command = elim (is_snapshot_due place command) as (λ b. 1 ≤ 
 early : (begun : State) (command : Command) (more : List Command) (few all : ℕ) (image : List ℕ) → all ≡ few
     → RecoversToPrefix begun (command ∷ []) few image → RecoversToPrefix begun (command ∷ more) all image
 early begun command more few all image same some =
-    let front : take some.count (command ∷ more) ≡ take some.count (command ∷ []) = take-append-le some.count (command ∷ []) more some.within in
+    let prefix : take some.count (command ∷ more) ≡ take some.count (command ∷ []) = take-append-le some.count (command ∷ []) more some.within in
     let within : some.count ≤ 1 = some.within in record {
       count = some.count;
       all_acknowledged = omega (arith, same, some.all_acknowledged);
       one_more = omega (arith, same, some.one_more);
       within = omega (arith, within);
-      accepted = subst (λ (l : List Command). AreAccepted begun l) (sym front) some.accepted;
-      stands = subst (λ (l : List Command). RecoversTo Two image (after begun l)) (sym front) some.stands;
+      accepted = subst (λ (l : List Command). AreAccepted begun l) (sym prefix) some.accepted;
+      recovers = subst (λ (l : List Command). RecoversTo Two image (after begun l)) (sym prefix) some.recovers;
     }
 
 -- The first command and a prefix of the others are a prefix of all commands.
@@ -58,7 +58,7 @@ late begun command more few all image same accepted some = record {
   one_more = omega (arith, same, some.one_more);
   within = omega (arith, some.within);
   accepted = (accepted.0, accepted.1, some.accepted);
-  stands = some.stands;
+  recovers = some.recovers;
 }
 
 module _ {D : Type 0} (len calls faults : D → ℕ) (honest : D → Type 0) (clock : D → ℕ) (since : D → ℕ → ℕ → List ℕ → Type 0) (possible : D → List ℕ → Type 0) where
@@ -87,7 +87,7 @@ module _ {D : Type 0} (len calls faults : D → ℕ) (honest : D → Type 0) (cl
   }
 
   -- A broken session answers only Broken.
-  broken_stays : (commands : List Command) (replies : List Reply) (old new : SessionValue D) → old.is_broken ≡ true → Run old commands replies new → (new ≡ old) × ((m : ℕ) → acked m replies ≡ 0)
+  broken_stays : (commands : List Command) (replies : List Reply) (old new : SessionValue D) → old.is_broken ≡ true → Run old commands replies new → (new ≡ old) × ((m : ℕ) → acknowledged_count m replies ≡ 0)
   broken_stays [] [] old new broken run = (run, λ m. refl)
   broken_stays (command ∷ commands) (reply ∷ replies) old new broken run =
       let mid = run.0 in
@@ -97,7 +97,7 @@ module _ {D : Type 0} (len calls faults : D → ℕ) (honest : D → Type 0) (cl
       let same : mid ≡ old = subst (λ (a : Result (Unit {0}) Denial). Makes a old command mid) reported applied.makes in
       let rest = broken_stays commands replies mid new (ap (λ (s : SessionValue D). s.is_broken) same ∙ broken) run.2 in (
         rest.0 ∙ same,
-        λ m. unacked m reply replies (ap (λ (a : Result (Unit {0}) Denial). is_ok a && nat_le reply.calls m) reported) ∙ rest.1 m,
+        λ m. unacknowledged m reply replies (ap (λ (a : Result (Unit {0}) Denial). is_ok a && nat_le reply.calls m) reported) ∙ rest.1 m,
       )
   broken_stays [] (reply ∷ replies) old new broken run = elim run [ ]
   broken_stays (command ∷ commands) [] old new broken run = elim run [ ]
@@ -110,22 +110,22 @@ module _ {D : Type 0} (len calls faults : D → ℕ) (honest : D → Type 0) (cl
   honest_back (command ∷ commands) [] old new run h = elim run [ ]
 
   -- If no call has finished since a run began, none of its commands is acknowledged.
-  none_yet : (commands : List Command) (replies : List Reply) (old new : SessionValue D) → Run old commands replies new → (m : ℕ) → m ≤ calls old.device → acked m replies ≡ 0
+  none_yet : (commands : List Command) (replies : List Reply) (old new : SessionValue D) → Run old commands replies new → (m : ℕ) → m ≤ calls old.device → acknowledged_count m replies ≡ 0
   none_yet [] [] old new run m le = refl
   none_yet (command ∷ commands) (reply ∷ replies) old new run m le = first reply.answer reply.calls run.1 (λ later. none_yet commands replies run.0 new run.2 m later)
     where
-      first : (answer : Result (Unit {0}) Denial) (n : ℕ) → Applied old command (record { answer = answer; calls = n }) run.0 → (m ≤ calls run.0.device → acked m replies ≡ 0)
-          → acked m (record { answer = answer; calls = n } ∷ replies) ≡ 0
+      first : (answer : Result (Unit {0}) Denial) (n : ℕ) → Applied old command (record { answer = answer; calls = n }) run.0 → (m ≤ calls run.0.device → acknowledged_count m replies ≡ 0)
+          → acknowledged_count m (record { answer = answer; calls = n } ∷ replies) ≡ 0
       first (Ok done) n applied again =
           let later : calls run.0.device ≡ calls old.device + calls_of old.place command = applied.called.finished in
           let some = some_calls old.place command in
           let below : nat_le n m ≡ false = lt-leb n m (omega (arith, le, later, some, applied.count)) in
-          unacked m (record { answer = Ok done; calls = n }) replies below ∙ again (omega (arith, le, later))
-      first (Err DeviceFault) n applied again = unacked m (record { answer = Err DeviceFault; calls = n }) replies refl ∙ (broken_stays commands replies run.0 new applied.makes.is_broken run.2).1 m
-      first (Err Broken) n applied again = unacked m (record { answer = Err Broken; calls = n }) replies refl ∙ again (subst (λ (s : SessionValue D). m ≤ calls s.device) (sym applied.makes) le)
-      first (Err (Core r)) n applied again = unacked m (record { answer = Err (Core r); calls = n }) replies refl ∙ again (subst (λ (s : SessionValue D). m ≤ calls s.device) (sym applied.makes) le)
-      first (Err Spent) n applied again = unacked m (record { answer = Err Spent; calls = n }) replies refl ∙ again (subst (λ (s : SessionValue D). m ≤ calls s.device) (sym applied.makes) le)
-      first (Err OutOfMemory) n applied again = unacked m (record { answer = Err OutOfMemory; calls = n }) replies refl
+          unacknowledged m (record { answer = Ok done; calls = n }) replies below ∙ again (omega (arith, le, later))
+      first (Err DeviceFault) n applied again = unacknowledged m (record { answer = Err DeviceFault; calls = n }) replies refl ∙ (broken_stays commands replies run.0 new applied.makes.is_broken run.2).1 m
+      first (Err Broken) n applied again = unacknowledged m (record { answer = Err Broken; calls = n }) replies refl ∙ again (subst (λ (s : SessionValue D). m ≤ calls s.device) (sym applied.makes) le)
+      first (Err (Core r)) n applied again = unacknowledged m (record { answer = Err (Core r); calls = n }) replies refl ∙ again (subst (λ (s : SessionValue D). m ≤ calls s.device) (sym applied.makes) le)
+      first (Err Spent) n applied again = unacknowledged m (record { answer = Err Spent; calls = n }) replies refl ∙ again (subst (λ (s : SessionValue D). m ≤ calls s.device) (sym applied.makes) le)
+      first (Err OutOfMemory) n applied again = unacknowledged m (record { answer = Err OutOfMemory; calls = n }) replies refl
           ∙ again (subst (λ (s : SessionValue D). m ≤ calls s.device) (sym applied.makes) le)
   none_yet [] (reply ∷ replies) old new run m le = elim run [ ]
   none_yet (command ∷ commands) [] old new run m le = elim run [ ]
@@ -164,28 +164,28 @@ module _ {D : Type 0} (len calls faults : D → ℕ) (honest : D → Type 0) (cl
     counted_from (command ∷ commands) [] old new run h = elim run [ ]
 
     -- Each image of a session recovers to its state.
-    abbrev Stands : SessionValue D → Type 0
-    Stands s = (image : List ℕ) → possible s.device image → RecoversTo Two image s.state
+    abbrev Recovers : SessionValue D → Type 0
+    Recovers s = (image : List ℕ) → possible s.device image → RecoversTo Two image s.state
 
     -- If the first command is refused, the images of the run are those of the remaining commands.
     refused : (command : Command) (commands : List Command) (replies : List Reply) (old mid new : SessionValue D) (answer : Result (Unit {0}) Denial) (n : ℕ)
-        → is_ok answer ≡ false → kept (command ∷ commands) (record { answer = answer; calls = n } ∷ replies) ≡ kept commands replies → mid ≡ old → old.is_broken ≡ false → Stands old
-        → (mid.is_broken ≡ false → Stands mid → All mid.device new.device (RunLeaves mid.state commands replies))
+        → is_ok answer ≡ false → kept_commands (command ∷ commands) (record { answer = answer; calls = n } ∷ replies) ≡ kept_commands commands replies → mid ≡ old → old.is_broken ≡ false → Recovers old
+        → (mid.is_broken ≡ false → Recovers mid → All mid.device new.device (RunLeaves mid.state commands replies))
         → All old.device new.device (RunLeaves old.state (command ∷ commands) (record { answer = answer; calls = n } ∷ replies))
-    refused command commands replies old mid new answer n bad same_kept same whole stands rest =
+    refused command commands replies old mid new answer n bad same_kept same whole recovers rest =
         let reply : Reply = record { answer = answer; calls = n } in
         let here : All old.device new.device (RunLeaves old.state commands replies) =
         subst (λ (s : SessionValue D). All s.device new.device (RunLeaves s.state commands replies)) same
-        (rest (ap (λ (s : SessionValue D). s.is_broken) same ∙ whole) (subst (λ (s : SessionValue D). Stands s) (sym same) stands)) in
+        (rest (ap (λ (s : SessionValue D). s.is_broken) same ∙ whole) (subst (λ (s : SessionValue D). Recovers s) (sym same) recovers)) in
         through.weakened clock since old.device new.device (RunLeaves old.state commands replies) (RunLeaves old.state (command ∷ commands) (reply ∷ replies))
-        (λ m image some. subst (λ (l : List Command). RecoversToPrefix old.state l (acked m (reply ∷ replies)) image) (sym same_kept)
-        (subst (λ (k : ℕ). RecoversToPrefix old.state (kept commands replies) k image) (sym (unacked m reply replies (ap (λ (b : Bool). b && nat_le n m) bad))) some)) here
+        (λ m image some. subst (λ (l : List Command). RecoversToPrefix old.state l (acknowledged_count m (reply ∷ replies)) image) (sym same_kept)
+        (subst (λ (k : ℕ). RecoversToPrefix old.state (kept_commands commands replies) k image) (sym (unacknowledged m reply replies (ap (λ (b : Bool). b && nat_le n m) bad))) some)) here
 
     -- At each moment of a run each image recovers to the state after a prefix of the kept commands, with all
     -- acknowledged ones.
-    pub run_leaves : (commands : List Command) (replies : List Reply) (old new : SessionValue D) → Run old commands replies new → old.is_broken ≡ false → Stands old → honest new.device
+    pub run_leaves : (commands : List Command) (replies : List Reply) (old new : SessionValue D) → Run old commands replies new → old.is_broken ≡ false → Recovers old → honest new.device
         → All old.device new.device (RunLeaves old.state commands replies)
-    run_leaves [] [] old new run whole stands h =
+    run_leaves [] [] old new run whole recovers h =
         subst (λ (s : SessionValue D). All old.device s.device (RunLeaves old.state [] [])) (sym run)
         (through.started clock since old.device (RunLeaves old.state [] []) (λ m image left. record {
           count = 0;
@@ -193,16 +193,16 @@ module _ {D : Type 0} (len calls faults : D → ℕ) (honest : D → Type 0) (cl
           one_more = omega arith;
           within = omega arith;
           accepted = tt;
-          stands = stands image (only_now old.device m image (subst (λ (s : SessionValue D). honest s.device) run h) left).1;
+          recovers = recovers image (only_now old.device m image (subst (λ (s : SessionValue D). honest s.device) run h) left).1;
         }))
-    run_leaves (command ∷ commands) (reply ∷ replies) old new run whole stands h =
-        first reply.answer reply.calls run.1 (λ mid_whole mid_stands. run_leaves commands replies run.0 new run.2 mid_whole mid_stands h)
+    run_leaves (command ∷ commands) (reply ∷ replies) old new run whole recovers h =
+        first reply.answer reply.calls run.1 (λ mid_whole mid_recovers. run_leaves commands replies run.0 new run.2 mid_whole mid_recovers h)
       where
         mid_honest : honest run.0.device
         mid_honest = honest_back commands replies run.0 new run.2 h
 
         first : (answer : Result (Unit {0}) Denial) (n : ℕ) → Applied old command (record { answer = answer; calls = n }) run.0
-            → (run.0.is_broken ≡ false → Stands run.0 → All run.0.device new.device (RunLeaves run.0.state commands replies))
+            → (run.0.is_broken ≡ false → Recovers run.0 → All run.0.device new.device (RunLeaves run.0.state commands replies))
             → All old.device new.device (RunLeaves old.state (command ∷ commands) (record { answer = answer; calls = n } ∷ replies))
         first (Ok done) n applied rest =
             let reply : Reply = record { answer = Ok done; calls = n } in
@@ -211,33 +211,33 @@ module _ {D : Type 0} (len calls faults : D → ℕ) (honest : D → Type 0) (cl
             let own = both old.device run.0.device (RunLeaves old.state (command ∷ []) (reply ∷ []))
             (IsBetween (calls old.device) (calls old.device + calls_of old.place command)) (applied.moments whole mid_honest) (applied.counts mid_honest) in
             let following = both run.0.device new.device (RunLeaves run.0.state commands replies) (λ m image. calls run.0.device ≤ m)
-            (rest done_so.is_broken (applied.stands done_so.is_broken mid_honest)) (counted_from commands replies run.0 new run.2 h) in
+            (rest done_so.is_broken (applied.recovers done_so.is_broken mid_honest)) (counted_from commands replies run.0 new run.2 h) in
             through.joined clock since old.device run.0.device new.device (RunLeaves old.state (command ∷ commands) (reply ∷ replies))
             (through.weakened clock since old.device run.0.device
             (λ m image. RunLeaves old.state (command ∷ []) (reply ∷ []) m image
             × IsBetween (calls old.device) (calls old.device + calls_of old.place command) m image)
             (RunLeaves old.state (command ∷ commands) (reply ∷ replies))
-            (λ m image all. early old.state command (kept commands replies) (acked m (reply ∷ [])) (acked m (reply ∷ replies)) image
-            (acked-cons m reply replies ∙ ap (λ (k : ℕ). cond (is_acknowledged m reply) 1 0 + k)
-            (none_yet commands replies run.0 new run.2 m (omega (arith, all.1.1, counted))) ∙ sym (acked-cons m reply []))
+            (λ m image all. early old.state command (kept_commands commands replies) (acknowledged_count m (reply ∷ [])) (acknowledged_count m (reply ∷ replies)) image
+            (acknowledged_count-cons m reply replies ∙ ap (λ (k : ℕ). cond (is_acknowledged m reply) 1 0 + k)
+            (none_yet commands replies run.0 new run.2 m (omega (arith, all.1.1, counted))) ∙ sym (acknowledged_count-cons m reply []))
             all.0) own)
             (through.weakened clock since run.0.device new.device (λ m image. RunLeaves run.0.state commands replies m image × (calls run.0.device ≤ m))
             (RunLeaves old.state (command ∷ commands) (reply ∷ replies))
-            (λ m image all. late old.state command (kept commands replies) (acked m replies) (acked m (reply ∷ replies)) image
-            (one_acked m reply replies (le-leb n m (omega (arith, applied.count, all.1))))
+            (λ m image all. late old.state command (kept_commands commands replies) (acknowledged_count m replies) (acknowledged_count m (reply ∷ replies)) image
+            (one_acknowledged m reply replies (le-leb n m (omega (arith, applied.count, all.1))))
             done_so.accepted
-            (subst (λ (s : State). RecoversToPrefix s (kept commands replies) (acked m replies) image) done_so.state all.0)) following)
+            (subst (λ (s : State). RecoversToPrefix s (kept_commands commands replies) (acknowledged_count m replies) image) done_so.state all.0)) following)
         first (Err DeviceFault) n applied rest =
             let reply : Reply = record { answer = Err DeviceFault; calls = n } in
             let stays = broken_stays commands replies run.0 new applied.makes.is_broken run.2 in
             subst (λ (s : SessionValue D). All old.device s.device (RunLeaves old.state (command ∷ commands) (reply ∷ replies))) (sym stays.0)
             (through.weakened clock since old.device run.0.device (RunLeaves old.state (command ∷ []) (reply ∷ [])) (RunLeaves old.state (command ∷ commands) (reply ∷ replies))
-            (λ m image all. early old.state command [] (acked m (reply ∷ [])) (acked m (reply ∷ replies)) image
-            (unacked m reply replies refl ∙ stays.1 m ∙ sym (unacked m reply [] refl)) all)
+            (λ m image all. early old.state command [] (acknowledged_count m (reply ∷ [])) (acknowledged_count m (reply ∷ replies)) image
+            (unacknowledged m reply replies refl ∙ stays.1 m ∙ sym (unacknowledged m reply [] refl)) all)
             (applied.moments whole mid_honest))
-        first (Err Broken) n applied rest = refused command commands replies old run.0 new (Err Broken) n refl refl applied.makes whole stands rest
-        first (Err (Core r)) n applied rest = refused command commands replies old run.0 new (Err (Core r)) n refl refl applied.makes whole stands rest
-        first (Err Spent) n applied rest = refused command commands replies old run.0 new (Err Spent) n refl refl applied.makes whole stands rest
-        first (Err OutOfMemory) n applied rest = refused command commands replies old run.0 new (Err OutOfMemory) n refl refl applied.makes whole stands rest
-    run_leaves [] (reply ∷ replies) old new run whole stands h = elim run [ ]
-    run_leaves (command ∷ commands) [] old new run whole stands h = elim run [ ]
+        first (Err Broken) n applied rest = refused command commands replies old run.0 new (Err Broken) n refl refl applied.makes whole recovers rest
+        first (Err (Core r)) n applied rest = refused command commands replies old run.0 new (Err (Core r)) n refl refl applied.makes whole recovers rest
+        first (Err Spent) n applied rest = refused command commands replies old run.0 new (Err Spent) n refl refl applied.makes whole recovers rest
+        first (Err OutOfMemory) n applied rest = refused command commands replies old run.0 new (Err OutOfMemory) n refl refl applied.makes whole recovers rest
+    run_leaves [] (reply ∷ replies) old new run whole recovers h = elim run [ ]
+    run_leaves (command ∷ commands) [] old new run whole recovers h = elim run [ ]

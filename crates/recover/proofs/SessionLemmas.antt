@@ -19,23 +19,23 @@ use Rattle.recover.specs.declared.denials.Denial.{Denial}
 use Rattle.recover.specs.declared.denials.Denial.TheVariants.{Broken, Core, Spent, DeviceFault}
 use Rattle.recover.specs.declared.replies.Reply.{Reply}
 use Rattle.recover.specs.RecoversTo.{RecoversTo}
-use Rattle.recover.specs.Replies.{acked}
+use Rattle.recover.specs.Replies.{acknowledged_count}
 use Rattle.recover.specs.Moments.{RecoversToPrefix, RunLeaves}
 use Rattle.recover.specs.Sessions.{SessionValue, AllHold}
-use Rattle.recover.specs.Applying.{is_snapshot_due, place_after, spent, denial, IsBetween}
+use Rattle.recover.specs.Applying.{is_snapshot_due, place_after, spent_denial, denial, IsBetween}
 use Rattle.recover.specs.Committing.{IsInStep}
-use Rattle.recover.proofs.RunLemmas.{unacked, one_acked}
+use Rattle.recover.proofs.RunLemmas.{unacknowledged, one_acknowledged}
 use Rattle.recover.proofs.StepLemmas.{held}
 
 -- images that hold a state and commands recover to the state after the commands
-pub stands_of : (images : List ℕ → Type 0) (state : State) (place : Place) → AllHold images state place → (image : List ℕ) → images image → RecoversTo Two image state
-stands_of images state place all image left = held images state place all image (all.each image left)
+pub held_recover : (images : List ℕ → Type 0) (state : State) (place : Place) → AllHold images state place → (image : List ℕ) → images image → RecoversTo Two image state
+held_recover images state place all image left = held images state place all image (all.each image left)
 
 -- without a denial the session is not broken and has a sequence left
-pub undenied : {D : Type 0} (s : SessionValue D) (command : Command) → denial s command ≡ None → (s.is_broken ≡ false) × (spent s.place command ≡ None)
+pub undenied : {D : Type 0} (s : SessionValue D) (command : Command) → denial s command ≡ None → (s.is_broken ≡ false) × (spent_denial s.place command ≡ None)
 undenied s command none = from s.is_broken (refusal s.state command) none
   where
-    from : (b : Bool) (r : Option Refusal) → (if b then Some Broken else option_or (option_map Core r) (spent s.place command)) ≡ None → (b ≡ false) × (spent s.place command ≡ None)
+    from : (b : Bool) (r : Option Refusal) → (if b then Some Broken else option_or (option_map Core r) (spent_denial s.place command)) ≡ None → (b ≡ false) × (spent_denial s.place command ≡ None)
     from false None e = (refl, e)
     from false (Some x) e = cc e
     from true r e = cc e
@@ -44,7 +44,7 @@ less_unless : (a b : ℕ) → a ≤ b → (a == b) ≡ false → a < b
 less_unless a b most off = ⊎_elim (λ (same : ((a == b) ≡ true) × (a ≡ b)). cc (same.0, off)) (λ (other : ((a == b) ≡ false) × (a ≢ b)). omega (arith, most, other.1)) (eqb_tells a b)
 
 -- the place after a command is a valid place of a session
-pub place_fits : (place : Place) (command : Command) → spent place command ≡ None → 1 ≤ place.sequence → place.sequence ≤ 2 ^ 60 → place.used ≤ 256
+pub place_fits : (place : Place) (command : Command) → spent_denial place command ≡ None → 1 ≤ place.sequence → place.sequence ≤ 2 ^ 60 → place.used ≤ 256
     → (1 ≤ (place_after place command).sequence) × ((place_after place command).sequence ≤ 2 ^ 60) × ((place_after place command).used ≤ 256)
 place_fits place command unspent first last used =
     from (is_recorded command) (place.used == 256) (place.sequence == 2 ^ 60) (less_unless place.used 256 used) (less_unless place.sequence (2 ^ 60) last) unspent
@@ -62,46 +62,46 @@ place_fits place command unspent first last used =
 module _ (state : State) (command : Command) (accepted : AreAccepted state (command ∷ [])) (next : State) (same : next ≡ effect state command)
     (calls steps n m : ℕ) (image : List ℕ) (step : IsInStep state next calls steps m image) where
   none : (all : ℕ) → all ≡ 0 → RecoversTo Two image state → RecoversToPrefix state (command ∷ []) all image
-  none all e stands = record { count = 0; all_acknowledged = omega (arith, e); one_more = omega arith; within = omega arith; accepted = tt; stands = stands }
+  none all e recovers = record { count = 0; all_acknowledged = omega (arith, e); one_more = omega arith; within = omega arith; accepted = tt; recovers = recovers }
 
   one : (all : ℕ) → all ≤ 1 → RecoversTo Two image next → RecoversToPrefix state (command ∷ []) all image
-  one all le stands = record {
+  one all le recovers = record {
     count = 1;
     all_acknowledged = omega (arith, le);
     one_more = omega arith;
     within = omega arith;
     accepted = accepted;
-    stands = subst (λ (s : State). RecoversTo Two image s) same stands;
+    recovers = subst (λ (s : State). RecoversTo Two image s) same recovers;
   }
 
   pub leaves_ok : (done : Unit {0}) → n ≡ calls + steps → RunLeaves state (command ∷ []) (record { answer = Ok done; calls = n } ∷ []) m image
   leaves_ok done counted =
       let reply : Reply = record { answer = Ok done; calls = n } in ⊎_elim
-      (λ (before : m < n). let not_yet : acked m (reply ∷ []) ≡ 0 = unacked m reply [] (lt-leb n m before) in
-      ⊎_elim (none (acked m (reply ∷ [])) not_yet) (one (acked m (reply ∷ [])) (omega (arith, not_yet))) step.either)
-      (λ (last : n ≤ m). let is : acked m (reply ∷ []) ≡ 1 + 0 = one_acked m reply [] (le-leb n m last) in
-      one (acked m (reply ∷ [])) (omega (arith, is)) (step.done (omega (arith, step.to, counted, last))))
+      (λ (before : m < n). let not_yet : acknowledged_count m (reply ∷ []) ≡ 0 = unacknowledged m reply [] (lt-leb n m before) in
+      ⊎_elim (none (acknowledged_count m (reply ∷ [])) not_yet) (one (acknowledged_count m (reply ∷ [])) (omega (arith, not_yet))) step.either)
+      (λ (last : n ≤ m). let is : acknowledged_count m (reply ∷ []) ≡ 1 + 0 = one_acknowledged m reply [] (le-leb n m last) in
+      one (acknowledged_count m (reply ∷ [])) (omega (arith, is)) (step.done (omega (arith, step.to, counted, last))))
       (cases_lt m n)
 
   pub leaves_fault : RunLeaves state (command ∷ []) (record { answer = Err DeviceFault; calls = n } ∷ []) m image
   leaves_fault =
       let reply : Reply = record { answer = Err DeviceFault; calls = n } in
-      let not_yet : acked m (reply ∷ []) ≡ 0 = unacked m reply [] refl in
-      ⊎_elim (none (acked m (reply ∷ [])) not_yet) (one (acked m (reply ∷ [])) (omega (arith, not_yet))) step.either
+      let not_yet : acknowledged_count m (reply ∷ []) ≡ 0 = unacknowledged m reply [] refl in
+      ⊎_elim (none (acknowledged_count m (reply ∷ [])) not_yet) (one (acknowledged_count m (reply ∷ [])) (omega (arith, not_yet))) step.either
 
 -- a command that does not call the device leaves the images as they were
 module _ {D : Type 0} (calls : D → ℕ) (honest : D → Type 0) (clock : D → ℕ) (since : D → ℕ → ℕ → List ℕ → Type 0) (possible : D → List ℕ → Type 0)
     (only_now : (d : D) (m : ℕ) (image : List ℕ) → honest d → since d (clock d) m image → (m ≡ calls d) × possible d image) (d : D) (h : honest d) where
   pub still : (state : State) → ((image : List ℕ) → possible d image → RecoversTo Two image state) → (command : Command) (why : Denial) (n : ℕ)
       → Throughout clock since d d (RunLeaves state (command ∷ []) (record { answer = Err why; calls = n } ∷ []))
-  still state stands command why n = through.started clock since d (RunLeaves state (command ∷ []) (record { answer = Err why; calls = n } ∷ [])) (λ m image left.
-      let not_yet : acked m (record { answer = Err why; calls = n } ∷ []) ≡ 0 = unacked m (record { answer = Err why; calls = n }) [] refl in record {
+  still state recovers command why n = through.started clock since d (RunLeaves state (command ∷ []) (record { answer = Err why; calls = n } ∷ [])) (λ m image left.
+      let not_yet : acknowledged_count m (record { answer = Err why; calls = n } ∷ []) ≡ 0 = unacknowledged m (record { answer = Err why; calls = n }) [] refl in record {
         count = 0;
         all_acknowledged = omega (arith, not_yet);
         one_more = omega arith;
         within = omega arith;
         accepted = tt;
-        stands = stands image (only_now d m image h left).1;
+        recovers = recovers image (only_now d m image h left).1;
       })
 
   pub still_between : (k : ℕ) → Throughout clock since d d (IsBetween (calls d) (calls d + k))

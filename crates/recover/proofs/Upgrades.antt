@@ -24,13 +24,13 @@ pub is_made : {D E : Type 0} (on_old : sectors.Ghosts D) (on_new : sectors.Ghost
     → (on_new.honest new_after → OnCalls {T = Place} (Err fault)
     (Throughout on_new.clock on_new.possible_since new new_after (IsInFormat (IsUnformatted version_2) (λ image. Holds Two image state [] first_place) (on_new.calls new))))
     → OnWritten {T = Place} (Err (New fault)) (IsMadeFromOld on_old on_new (Err (New fault)) old old_after new new_after)
-is_made on_old on_new TooSmall old old_after new new_after state stood moments = tt
-is_made on_old on_new OutOfMemory old old_after new new_after state stood moments = tt
-is_made on_old on_new DeviceFault old old_after new new_after state stood moments = record {
+is_made on_old on_new TooSmall old old_after new new_after state old_recovers moments = tt
+is_made on_old on_new OutOfMemory old old_after new new_after state old_recovers moments = tt
+is_made on_old on_new DeviceFault old old_after new new_after state old_recovers moments = record {
   state = state;
-  stood = stood;
+  old_recovers = old_recovers;
   place = tt;
   moments = moments;
   holds = λ honest. tt;
-  stands = λ honest. tt;
+  recovers = λ honest. tt;
 }

@@ -35,13 +35,13 @@ place_after place command =
     else place_after_record place
 
 -- The denial Spent, if a snapshot is due and there is no sequence left for it.
-abbrev pub spent : Place → Command → Option Denial
-spent place command = if is_snapshot_due place command && (place.sequence == last_sequence) then Some Spent else None
+abbrev pub spent_denial : Place → Command → Option Denial
+spent_denial place command = if is_snapshot_due place command && (place.sequence == last_sequence) then Some Spent else None
 
 -- The reason why a command is denied before memory is allocated and the device is called. If there are several,
 -- it is the first one.
 abbrev pub denial : {D : Type 0} → SessionValue D → Command → Option Denial
-denial s command = if s.is_broken then Some Broken else option_or (option_map Core (refusal s.state command)) (spent s.place command)
+denial s command = if s.is_broken then Some Broken else option_or (option_map Core (refusal s.state command)) (spent_denial s.place command)
 
 -- The answer is this denial, if there is one. Otherwise it is Ok, or memory ran out, or the device failed.
 abbrev pub IsAnswer : {T : Type 0} → Option Denial → Result T Denial → Type 0
@@ -100,7 +100,7 @@ module _ {D : Type 0} (len calls faults : D → ℕ) (honest : D → Type 0) (cl
     pub called : IsCalled len calls faults honest (more reply.answer (calls_of old.place command)) (faults_after_answer reply.answer) old.device new.device
     pub moments : old.is_broken ≡ false → honest new.device → Throughout clock since old.device new.device (RunLeaves old.state (command ∷ []) (reply ∷ []))
     pub counts : honest new.device → Throughout clock since old.device new.device (IsBetween (calls old.device) (calls old.device + calls_of old.place command))
-    pub stands : new.is_broken ≡ false → honest new.device → (image : List ℕ) → possible new.device image → RecoversTo Two image new.state
+    pub recovers : new.is_broken ≡ false → honest new.device → (image : List ℕ) → possible new.device image → RecoversTo Two image new.state
 
   -- One reply for each command, each as `apply` returns it, one after another.
   abbrev pub IsRun : SessionValue D → List Command → List Reply → SessionValue D → Type 0

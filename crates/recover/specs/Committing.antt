@@ -14,7 +14,7 @@ use Rattle.checkpoint.specs.Layouts.{version_2, journal_room, last_sequence, sec
 use Rattle.checkpoint.specs.Refusals.{one_more_fault}
 use Rattle.recover.specs.declared.commits.CommitFault.{CommitFault}
 use Rattle.recover.specs.declared.commits.CommitFault.TheVariants.{OutOfMemory, DeviceFault}
-use Rattle.recover.specs.Applying.{spent}
+use Rattle.recover.specs.Applying.{spent_denial}
 use Rattle.recover.specs.RecoversTo.{RecoversTo}
 use Rattle.recover.specs.Sessions.{AllHold}
 
@@ -52,7 +52,7 @@ faults_after_commit (Err fault) faults = faults_of_commit fault faults
 -- There is a place for the command: a sector for a record, or a sequence for a snapshot that is due.
 pub record CanCommit (sectors : ℕ) (place : Place) (command : Command) : Type 0 where
   pub fits : is_recorded command ≡ true → fits_record command ≡ true
-  pub unspent : spent place command ≡ None
+  pub unspent : spent_denial place command ≡ None
   pub room : sectors_in version_2 ≤ sectors
   pub first : 1 ≤ place.sequence
   pub last : place.sequence ≤ last_sequence

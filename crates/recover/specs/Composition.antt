@@ -8,7 +8,7 @@ use Rattle.state_codec.specs.declared.version.Version.TheVariants.{Two}
 use Rattle.checkpoint.specs.declared.faults.StoreFault.{StoreFault}
 use Rattle.checkpoint.specs.declared.faults.StoreFault.TheVariants.{DeviceFault}
 use Rattle.recover.specs.declared.replies.Reply.{Reply}
-use Rattle.recover.specs.Replies.{kept, acked}
+use Rattle.recover.specs.Replies.{kept_commands, acknowledged_count}
 use Rattle.recover.specs.RecoversTo.{RecoversTo}
 use Rattle.recover.specs.Moments.{RunLeaves}
 use Rattle.recover.specs.Sessions.{SessionValue}
@@ -86,4 +86,4 @@ module _ {D E : Type 0} (on : sectors.Ghosts D) (again : sectors.Ghosts E) where
       → ((image : List ℕ) → again.possible first image → on.possible_since new.device (on.clock old.device) m image)
       → AreCrashedOpenings again first laters last
       → again.honest last → again.honest left → OpensToImageState again last outcome left
-      → ReturnsUnlessFailed (IsRecovered old.state (kept commands replies) (acked m replies)) outcome
+      → ReturnsUnlessFailed (IsRecovered old.state (kept_commands commands replies) (acknowledged_count m replies)) outcome

@@ -14,7 +14,7 @@ use Rattle.recover.specs.declared.replies.Run.{Run}
 use Rattle.recover.specs.declared.rounds.Round.{Round}
 use Rattle.state_codec.specs.declared.version.Version.TheVariants.{Two}
 use Rattle.recover.specs.RecoversTo.{RecoversTo}
-use Rattle.recover.specs.Replies.{kept}
+use Rattle.recover.specs.Replies.{kept_commands}
 use Rattle.recover.specs.Headline.{HasPassingPlan}
 use Rattle.recover.specs.Rounds.{count_ok}
 
@@ -22,7 +22,7 @@ use Rattle.recover.specs.Rounds.{count_ok}
 pub record IsCount (round : Round) (run : Run) (count : ℕ) : Type 0 where
   pub all_acknowledged : count_ok run.replies.items ≤ count
   pub one_more : count ≤ count_ok run.replies.items + 1
-  pub within : count ≤ length (kept round.commands.items run.replies.items)
+  pub within : count ≤ length (kept_commands round.commands.items run.replies.items)
 
 -- One number of recovered commands for each round.
 abbrev pub AreCounts : List Round → List Run → List ℕ → Type 0
@@ -32,7 +32,7 @@ AreCounts _ _ _ = ⊥
 
 -- The recovered commands of all rounds.
 abbrev pub recovered_commands : List Round → List Run → List ℕ → List Command
-recovered_commands (round ∷ rounds) (run ∷ runs) (count ∷ counts) = take count (kept round.commands.items run.replies.items) ++ recovered_commands rounds runs counts
+recovered_commands (round ∷ rounds) (run ∷ runs) (count ∷ counts) = take count (kept_commands round.commands.items run.replies.items) ++ recovered_commands rounds runs counts
 recovered_commands _ _ _ = []
 
 -- These commands lead from one state to another. The plan passes the auditor, and no incumbent since the last
@@ -51,7 +51,7 @@ pub record LeadsTo (begun : State) (commands : List Command) (given : State) : T
 -- This image recovers to a state, and the recovered commands lead from that state to the given one.
 pub record IsFold (image : List ℕ) (rounds : List Round) (runs : List Run) (given : State) : Type 0 where
   pub begun : State
-  pub stands : RecoversTo Two image begun
+  pub recovers : RecoversTo Two image begun
   pub counts : List ℕ
   pub one_each : AreCounts rounds runs counts
   pub leads : LeadsTo begun (recovered_commands rounds runs counts) given

@@ -14,7 +14,7 @@ use Rattle.state_codec.specs.declared.version.Version.TheVariants.{Two}
 use Rattle.sector_disk.specs.declared.sectors.Sectors as sectors
 use Rattle.checkpoint.specs.declared.faults.StoreFault.{StoreFault}
 use Rattle.recover.specs.declared.replies.Reply.{Reply}
-use Rattle.recover.specs.Replies.{kept, acked}
+use Rattle.recover.specs.Replies.{kept_commands, acknowledged_count}
 use Rattle.recover.specs.RecoversTo.{RecoversTo}
 use Rattle.recover.specs.Moments.{RecoversToPrefix}
 use Rattle.recover.specs.Sessions.{SessionValue}
@@ -44,7 +44,7 @@ module _ {D : Type 0} (on : sectors.Ghosts D) where
   -- commands. The prefix has all commands that were acknowledged by then, and at most one more.
   abbrev pub LeavesPrefix : SessionValue D → List Command → List Reply → SessionValue D → Type 0
   LeavesPrefix old commands replies new = old.is_broken ≡ false → on.honest new.device → (m : ℕ) (image : List ℕ)
-      → on.possible_since new.device (on.clock old.device) m image → RecoversToPrefix old.state (kept commands replies) (acked m replies) image
+      → on.possible_since new.device (on.clock old.device) m image → RecoversToPrefix old.state (kept_commands commands replies) (acknowledged_count m replies) image
 
   -- The guarantee of `open` (clause `opens`): it returns the state to which the image that reads return
   -- recovers, unless memory runs out or the device fails.
@@ -61,4 +61,4 @@ module _ {D E : Type 0} (on : sectors.Ghosts D) (again : sectors.Ghosts E) where
       → on.possible_since new.device (on.clock old.device) m image
       -- A device is opened whose reads return this image, and which has answered as the model says.
       → again.seen device ≡ image → again.honest left → OpensToImageState again device outcome left
-      → ReturnsUnlessFailed (IsRecovered old.state (kept commands replies) (acked m replies)) outcome
+      → ReturnsUnlessFailed (IsRecovered old.state (kept_commands commands replies) (acknowledged_count m replies)) outcome

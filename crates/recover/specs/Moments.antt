@@ -6,7 +6,7 @@ use Rattle.command_types.specs.declared.commands.Command.{Command}
 use Rattle.state_codec.specs.declared.version.Version.TheVariants.{Two}
 use Rattle.recover.specs.declared.replies.Reply.{Reply}
 use Rattle.recover.specs.RecoversTo.{RecoversTo}
-use Rattle.recover.specs.Replies.{kept, acked}
+use Rattle.recover.specs.Replies.{kept_commands, acknowledged_count}
 
 -- The image recovers to the state after the first `count` of these commands, each accepted. `count` is the
 -- number of acknowledged ones, or one more.
@@ -16,9 +16,9 @@ pub record RecoversToPrefix (state : State) (commands : List Command) (acknowled
   pub one_more : count ≤ acknowledged + 1
   pub within : count ≤ length commands
   pub accepted : AreAccepted state (take count commands)
-  pub stands : RecoversTo Two image (after state (take count commands))
+  pub recovers : RecoversTo Two image (after state (take count commands))
 
 -- The guarantee of a run from this state for each image that a crash may leave when m device calls have
 -- finished.
 abbrev pub RunLeaves : State → List Command → List Reply → ℕ → List ℕ → Type 0
-RunLeaves state commands replies m image = RecoversToPrefix state (kept commands replies) (acked m replies) image
+RunLeaves state commands replies m image = RecoversToPrefix state (kept_commands commands replies) (acknowledged_count m replies) image

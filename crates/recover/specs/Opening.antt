@@ -1,10 +1,11 @@
 -- The result of opening a device, for a version of its store.
-use Rattle.std.specs.Prelude.{◌≡◌, ◌⊎◌, ℕ, ◌+◌, ◌<◌, ◌≤◌, false, List, sum_by, Result, Ok, Err, OnOk, IsErrOf, ⊤}
+use Rattle.std.specs.Prelude.{◌≡◌, ◌⊎◌, ℕ, ◌+◌, ◌*◌, ◌<◌, ◌≤◌, false, List, sum_by, Result, Ok, Err, OnOk, IsErrOf, ⊤}
 use Rattle.sector_disk.specs.declared.sectors.Sectors as sectors
 use Rattle.sector_disk.specs.Sectors.{Only, Throughout}
 use Rattle.command_types.specs.Commands.{steps_of}
 use Rattle.command_core.specs.Runs.{AreAccepted}
 use Rattle.command_types.specs.States.{IsState}
+use Rattle.command_types.specs.declared.limits.TheConstants.{MAX_SEARCH_STEPS}
 use Rattle.command_types.specs.declared.states.State.{State}
 use Rattle.command_types.specs.declared.states.State.TheVariants.{Empty, Loaded}
 use Rattle.command_types.specs.declared.commands.Command.{Command}
@@ -16,7 +17,7 @@ use Rattle.checkpoint.specs.declared.faults.StoreFault.TheVariants.{NotFormatted
 use Rattle.checkpoint.specs.declared.places.Place.{Place}
 use Rattle.checkpoint.specs.Holds.{Holds}
 use Rattle.checkpoint.specs.InvalidImages.{HoldsNothing, IsLoadFault, UnlessReadFailed}
-use Rattle.checkpoint.specs.Layouts.{min_sectors}
+use Rattle.checkpoint.specs.Layouts.{journal_room, min_sectors}
 use Rattle.checkpoint.specs.Reads.{ReadsOnly}
 use Rattle.checkpoint.specs.Refusals.{faults_after_reading, faults_of_store}
 use Rattle.recover.specs.RecoversTo.{RecoversTo}
@@ -64,7 +65,7 @@ pub record IsReplayed (version : Version) (image : List ℕ) (state : State) (pl
   pub holds : Holds version image snapshot commands place
   pub steps : steps_of_state state ≡ steps_of_state snapshot + replayed
   pub searched : replayed ≡ sum_by steps_of commands
-  pub most : replayed ≤ 65536
+  pub most : replayed ≤ journal_room * MAX_SEARCH_STEPS
 
 -- Opening replays `steps` search steps of the image: those of the searches among the commands that it holds.
 pub record IsStepsToReplay (version : Version) (image : List ℕ) (steps : ℕ) : Type 0 where
@@ -73,7 +74,7 @@ pub record IsStepsToReplay (version : Version) (image : List ℕ) (steps : ℕ) 
   pub place : Place
   pub holds : Holds version image snapshot commands place
   pub searched : steps ≡ sum_by steps_of commands
-  pub most : steps ≤ 65536
+  pub most : steps ≤ journal_room * MAX_SEARCH_STEPS
   -- Any opening of the image replays this number of steps.
   pub agrees : (state : State) (other : Place) (replayed : ℕ) → IsReplayed version image state other replayed → replayed ≡ steps
 
@@ -118,7 +119,7 @@ module _ {D : Type 0} (on : sectors.Ghosts D) where
     pub given : on.honest session.device → RecoversTo Two (on.seen device) session.state
     pub opens : on.honest session.device → Opens Two (on.seen device) (Ok session.state)
     pub replays : on.honest session.device → IsReplayed Two (on.seen device) session.state session.place replayed
-    pub stands : on.honest session.device → (image : List ℕ) → on.possible session.device image → RecoversTo Two image session.state
+    pub recovers : on.honest session.device → (image : List ℕ) → on.possible session.device image → RecoversTo Two image session.state
     pub reads : on.honest session.device → on.seen session.device ≡ on.seen device
     pub moments : on.honest session.device
         → Throughout on.clock on.possible_since device session.device (λ m image. IsBetween (on.calls device) (on.calls device + 1) m image × on.possible device image)

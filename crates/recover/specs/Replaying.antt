@@ -1,9 +1,10 @@
 -- The result of replaying the commands of a store.
-use Rattle.std.specs.Prelude.{◌≡◌, ℕ, ◌+◌, ◌-◌, ◌≤◌, List, sum_by, Result, ⊤}
+use Rattle.std.specs.Prelude.{◌≡◌, ℕ, ◌+◌, ◌-◌, ◌*◌, ◌≤◌, List, sum_by, Result, ⊤}
 use Rattle.sector_disk.specs.declared.sectors.Sectors as sectors
 use Rattle.command_types.specs.Commands.{steps_of}
 use Rattle.command_core.specs.Runs.{after, AreAccepted}
 use Rattle.command_types.specs.States.{IsState}
+use Rattle.command_types.specs.declared.limits.TheConstants.{MAX_SEARCH_STEPS}
 use Rattle.command_types.specs.declared.states.State.{State}
 use Rattle.command_types.specs.declared.commands.Command.{Command}
 use Rattle.command_types.specs.declared.refusals.Refusal.{Refusal}
@@ -14,7 +15,7 @@ use Rattle.checkpoint.specs.declared.faults.StoreFault.{StoreFault}
 use Rattle.checkpoint.specs.declared.faults.StoreFault.TheVariants as store
 use Rattle.checkpoint.specs.declared.places.Place.{Place}
 use Rattle.checkpoint.specs.Holds.{Holds, layout_of}
-use Rattle.checkpoint.specs.Layouts.{sectors_in}
+use Rattle.checkpoint.specs.Layouts.{journal_room, sectors_in}
 use Rattle.checkpoint.specs.Loads.{ReportsStore}
 use Rattle.checkpoint.specs.Reads.{IsWellFormedLoad}
 use Rattle.recover.specs.declared.opening.RecoveredState.{RecoveredState}
@@ -55,7 +56,7 @@ pub record IsReplayedImage (version : Version) (image : List ℕ) (state : State
   pub leads : after snapshot commands ≡ state
   pub steps : steps_of_state state ≡ steps_of_state snapshot + replayed
   pub searched : replayed ≡ sum_by steps_of commands
-  pub most : replayed ≤ 65536
+  pub most : replayed ≤ journal_room * MAX_SEARCH_STEPS
 
 module _ {D : Type 0} (on : sectors.Ghosts D) where
   -- The result for a device's store: the state that its image recovers to.

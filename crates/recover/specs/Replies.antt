@@ -17,15 +17,15 @@ kept_first command (Err OutOfMemory) rest = rest
 
 -- the commands that were answered Ok, in order, followed by the one that was answered DeviceFault, if there is
 -- one
-abbrev pub kept : List Command → List Reply → List Command
-kept [] replies = []
-kept (command ∷ commands) [] = []
-kept (command ∷ commands) (reply ∷ replies) = kept_first command reply.answer (kept commands replies)
+abbrev pub kept_commands : List Command → List Reply → List Command
+kept_commands [] replies = []
+kept_commands (command ∷ commands) [] = []
+kept_commands (command ∷ commands) (reply ∷ replies) = kept_first command reply.answer (kept_commands commands replies)
 
 -- the reply is Ok, and was given when at most m calls of the device had finished
 abbrev pub is_acknowledged : ℕ → Reply → Bool
 is_acknowledged m reply = is_ok reply.answer && nat_le reply.calls m
 
 -- the number of acknowledged commands, which a crash after m finished calls must not lose
-abbrev pub acked : ℕ → List Reply → ℕ
-acked m replies = count_by (is_acknowledged m) replies
+abbrev pub acknowledged_count : ℕ → List Reply → ℕ
+acknowledged_count m replies = count_by (is_acknowledged m) replies

@@ -16,7 +16,7 @@ use Rattle.recover.specs.declared.restarts.Ending.{Ending}
 use Rattle.recover.specs.declared.restarts.Ending.TheVariants.{Closed, Killed, Crashed}
 use Rattle.state_codec.specs.declared.version.Version.TheVariants.{Two}
 use Rattle.recover.specs.RecoversTo.{RecoversTo}
-use Rattle.recover.specs.Replies.{kept}
+use Rattle.recover.specs.Replies.{kept_commands}
 use Rattle.recover.specs.Moments.{RecoversToPrefix}
 use Rattle.recover.specs.Sessions.{SessionValue}
 use Rattle.recover.specs.Rounds.{seen_in, IsMemoryRun, count_ok, count_device_faults, IsMemoryOpened, IsUnopened, IsUnbegun}
@@ -46,7 +46,7 @@ pub record CarriesOut (device : MemDevice) (commands : List Command) (replies : 
   pub closed : handed ≡ last.device
   -- Each image recovers to the state after a prefix of the kept commands: all acknowledged ones, and at most
   -- one more.
-  pub images : (image : List ℕ) → MayLeave (memory handed) image → RecoversToPrefix first.state (kept commands replies) (count_ok replies) image
+  pub images : (image : List ℕ) → MayLeave (memory handed) image → RecoversToPrefix first.state (kept_commands commands replies) (count_ok replies) image
   -- Each DeviceFault counts as one failed call.
   pub faults : (memory handed).faults < 2 ^ 64 - 1 → (memory handed).faults ≡ (memory device).faults + count_device_faults replies
 
@@ -86,7 +86,7 @@ pub record EndsRestarts (device : MemDevice) (restarts : List Restart) (runs : L
 
 -- The kept commands and the number of acknowledged ones, for each restart whose opening succeeded.
 abbrev pub kept_by : List Restart → List (Result Run StoreFault) → List (List Command × ℕ)
-kept_by (restart ∷ restarts) (Ok run ∷ runs) = (kept restart.commands.items run.replies.items, count_ok run.replies.items) ∷ kept_by restarts runs
+kept_by (restart ∷ restarts) (Ok run ∷ runs) = (kept_commands restart.commands.items run.replies.items, count_ok run.replies.items) ∷ kept_by restarts runs
 kept_by (restart ∷ restarts) (Err fault ∷ runs) = kept_by restarts runs
 kept_by [] runs = []
 kept_by (restart ∷ restarts) [] = []
@@ -105,7 +105,7 @@ pub record AreJoined (device : MemDevice) (restarts : List Restart) (runs : List
   -- If the first opening succeeded, the image is the one that reads returned.
   pub seen : IsFirstOpened runs → image ≡ seen_in device
   pub begun : State
-  pub stands : RecoversTo Two image begun
+  pub recovers : RecoversTo Two image begun
   pub links : List Link
   pub one_each : map (λ link. (link.commands, link.acknowledged)) links ≡ kept_by restarts runs
   pub linked : AreLinked begun links given

@@ -18,7 +18,7 @@ use Rattle.recover.specs.declared.rounds.RoundsFault.{RoundsFault}
 use Rattle.recover.specs.declared.rounds.RoundsFault.TheVariants as rounds
 use Rattle.state_codec.specs.declared.version.Version.TheVariants.{Two}
 use Rattle.recover.specs.RecoversTo.{RecoversTo}
-use Rattle.recover.specs.Replies.{kept}
+use Rattle.recover.specs.Replies.{kept_commands}
 use Rattle.recover.specs.Moments.{RecoversToPrefix}
 use Rattle.recover.specs.Opening.{RecoversToNothing, IsReplayed}
 use Rattle.recover.specs.Sessions.{SessionValue}
@@ -52,7 +52,7 @@ count_device_faults replies = count_by (λ reply. is_device_fault reply.answer) 
 -- The session has the state that the device recovered to. Opening took one finished call, and replayed at most
 -- 65,536 search steps.
 pub record IsMemoryOpened (device : MemDevice) (session : SessionValue MemDevice) : Type 0 where
-  pub stands : RecoversTo Two (seen_in device) session.state
+  pub recovers : RecoversTo Two (seen_in device) session.state
   -- The device recovers to no other state than that of the session.
   pub alone : (state : State) → RecoversTo Two (seen_in device) state → session.state ≡ state
   pub whole : session.is_broken ≡ false
@@ -82,7 +82,7 @@ pub record IsRound (device : MemDevice) (round : Round) (replies : List Reply) (
   -- Each image recovers to the state after a prefix of the kept commands: all acknowledged ones, and at most
   -- one more.
   pub images : (image : List ℕ) → MayLeave (memory left) image
-      → RecoversToPrefix first.state (kept round.commands.items replies) (count_ok replies) image
+      → RecoversToPrefix first.state (kept_commands round.commands.items replies) (count_ok replies) image
   -- Each DeviceFault counts as one failed call.
   pub faults : (memory left).faults < 2 ^ 64 - 1 → (memory left).faults ≡ (memory device).faults + count_device_faults replies
 

@@ -98,9 +98,9 @@ module _ {D E : Type 0} (on_old : sectors.Ghosts D) (on_new : sectors.Ghosts E) 
   -- command, and so recovers to that state.
   pub record IsMadeFromOld (answer : Result Place UpgradeFault) (old old_after : D) (new new_after : E) : Type 0 where
     pub state : State
-    pub stood : on_old.honest old_after → RecoversTo One (on_old.seen old) state
+    pub old_recovers : on_old.honest old_after → RecoversTo One (on_old.seen old) state
     pub place : IfOk answer (λ place. place ≡ first_place)
     pub moments : on_new.honest new_after
         → Throughout on_new.clock on_new.possible_since new new_after (IsInFormat (IsUnformatted version_2) (λ image. Holds Two image state [] first_place) (on_new.calls new))
     pub holds : on_new.honest new_after → OnOk answer ((image : List ℕ) → on_new.possible new_after image → Holds Two image state [] first_place)
-    pub stands : on_new.honest new_after → OnOk answer ((image : List ℕ) → on_new.possible new_after image → RecoversTo Two image state)
+    pub recovers : on_new.honest new_after → OnOk answer ((image : List ℕ) → on_new.possible new_after image → RecoversTo Two image state)

@@ -10,7 +10,7 @@ ghost use Rattle.checkpoint.specs.Changes.{IsUnspent, HasRecordRoom};
 ghost use Rattle.checkpoint.specs.Places.{place_after_record, place_after_snapshot};
 ghost use Rattle.state_codec.specs.Limits.{IsRecorded};
 ghost use Rattle.state_codec.specs.declared.version.Version.TheVariants.{Two};
-ghost use Rattle.recover.specs.Applying.{is_snapshot_due, calls_of, place_after, spent};
+ghost use Rattle.recover.specs.Applying.{is_snapshot_due, calls_of, place_after, spent_denial};
 ghost use Rattle.recover.specs.Committing.{IsCommitFault, CanCommit, CommitsStateFrom, LeavesDevice, cause, faults_after_commit};
 
 use checkpoint::{Place, RECORDS, StoreFault, commit_record, commit_snapshot};

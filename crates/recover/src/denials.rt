@@ -2,24 +2,18 @@
 ghost use Rattle.std.specs.Prelude.{◌≡◌};
 
 use command_core::Refusal;
-use thiserror::Error;
 
 /// The reason why a command was not executed. All except `DeviceFault` leave session and device unchanged.
-#[derive(Clone, Copy, Debug, PartialEq, Eq, Error)]
+#[derive(Clone, Copy, Debug, PartialEq, Eq)]
 pub enum Denial {
     /// The device failed in an earlier command. The store has to be opened again.
-    #[error("the session is broken")]
     Broken,
     /// The state refuses the command. If memory runs out, the denial is `OutOfMemory` instead.
-    #[error("{0}")]
     Core(Refusal),
     /// A snapshot is due, but the store has used its last sequence.
-    #[error("the sequences are spent")]
     Spent,
-    #[error("out of memory")]
     OutOfMemory,
     /// The device failed. Opening it again shows whether the command was executed.
-    #[error("the device failed")]
     DeviceFault,
 }
 

@@ -18,7 +18,6 @@ use command_core::{
 use plan_audit::passes_decides_the_verdict;
 use sector_disk::MemDevice;
 use std::alloc::Global;
-use thiserror::Error;
 
 /// The crash that ends a round, and what it leaves.
 #[derive(Debug, Drop)]
@@ -38,13 +37,11 @@ pub struct Round {
 }
 
 /// The reason why a round is not executed.
-#[derive(Clone, Copy, Debug, PartialEq, Eq, Error)]
+#[derive(Clone, Copy, Debug, PartialEq, Eq)]
 pub enum RoundsFault {
     /// The store is not opened.
-    #[error("{0}")]
     Open(StoreFault),
     /// There is no memory for the answers.
-    #[error("out of memory")]
     OutOfMemory,
 }
 

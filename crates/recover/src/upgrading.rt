@@ -15,17 +15,14 @@ use command_core::State;
 use sector_disk::Sectors;
 use state_codec::version::Version;
 use std::alloc::Global;
-use thiserror::Error;
 
 /// The reason why a store was not upgraded.
-#[derive(Clone, Copy, Debug, PartialEq, Eq, Error)]
+#[derive(Clone, Copy, Debug, PartialEq, Eq)]
 pub enum UpgradeFault {
     /// The old device's store was not read, and the new device was not called.
-    #[error("the old store: {0}")]
     Old(StoreFault),
     /// The new device's store was not created. After `DeviceFault` it may have no store, and its previous
     /// content may be lost.
-    #[error("the new store: {0}")]
     New(FormatFault),
 }
 

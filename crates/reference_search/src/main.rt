@@ -1,6 +1,6 @@
-//! A slow reference for the search: it makes each step a second time, by the table of operators and with moves
-//! that return whole plans. After each step, the incumbent and the working plan must be those of `search_step`, and
-//! at the end those of `search_steps`.
+//! A slow reference for the search: it makes each step a second time, by the table of operators in
+//! `docs/SEARCH.md`, with moves that return whole plans. After each step, the incumbent and the working plan must
+//! be those of `search_step`, and at the end those of `search_steps`.
 //!
 //! A line of standard input is one search: a format, the path of an instance, whether its first plan is `best`
 //! or `spread`, a seed, the number of pinned stops of each route, a deviation, the number of the first step,
@@ -8,7 +8,7 @@
 //!
 //! Modules: `plans` (costs and insertions, the slow way), `steps` (a step by the table of operators).
 //!
-//! Proved: only that no step fails.
+//! Proved: only that nothing panics.
 #![tactic(auto)]
 
 ghost use Rattle.std.specs.Prelude.{◌≡◌, ◌<◌, ◌^◌, true};
@@ -117,20 +117,20 @@ fn read(alloc: Global, task: &Task, text: &[u8]) -> Result<Problem, ReadFault> {
     }
 }
 
-/// The result of a comparison.
+/// The result of comparing the search with the reference.
 #[derive(Clone, Copy)]
 enum Outcome {
     Agree { changes: u32, cost: Cost },
     Differ { step: u64 },
 }
 
-// Makes each step twice and compares the plans.
+// Makes each step twice, beginning with the built plan, and compares the plans.
 fn compared(alloc: Global, task: &Task, problem: &Problem) -> Result<Outcome, OutOfMemory> {
     let (pins, begun) = begin(alloc, task, problem)?;
     compared_from(alloc, task, problem, &pins, &begun)
 }
 
-// Makes each step twice, from this plan.
+// Makes each step twice, beginning with this plan, and compares the plans.
 fn compared_from(
     alloc: Global,
     task: &Task,
@@ -189,14 +189,14 @@ fn are_both_same(one: &Found, other: &Found) -> bool {
     are_same(&one.plan, &other.plan) && are_same(&one.work, &other.work)
 }
 
-// Returns a plan and its pins: the first stops of each route.
+// Returns the first plan of the task and its pins, the first stops of each route.
 fn begin(alloc: Global, task: &Task, problem: &Problem) -> Result<(Pins, Plan), OutOfMemory> {
     let plan = built(alloc, problem, task.is_spread)?;
     let pins = pins_of(alloc, &plan, task.pinned)?;
     Ok((pins, plan))
 }
 
-// Returns the plans after the step if `search_step` and the reference agree.
+// Returns the plans after the step, or `None` if `search_step` and the reference differ.
 fn one_step(
     alloc: Global,
     task: &Task,
@@ -219,7 +219,7 @@ fn one_step(
     next_if_same(alloc, task, problem, pins, found, number, &slow)
 }
 
-// Returns both plans after the step if the search finds the same ones.
+// Returns the plans after the step, or `None` if `search_step` finds others than the reference.
 fn next_if_same(
     alloc: Global,
     task: &Task,
@@ -250,7 +250,8 @@ fn next_if_same(
     }
 }
 
-// Returns the cost of the incumbent after all steps in one call, if both plans are then these.
+// Makes all steps in one call. Returns the cost of the incumbent, or `None` if the plans are not those in
+// `found`.
 fn searched(
     alloc: Global,
     task: &Task,

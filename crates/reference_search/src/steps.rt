@@ -8,7 +8,7 @@ use plan_types::{Cost, OutOfMemory, Pins, Plan, Problem};
 use seeded_search::Found;
 use std::alloc::Global;
 
-/// Returns both plans after a step with these words.
+/// Returns the incumbent and the working plan after a step with these random words.
 pub(crate) fn step(
     alloc: Global,
     problem: &Problem,
@@ -32,7 +32,7 @@ pub(crate) fn step(
     }
 }
 
-// Returns both plans after the candidate is accepted or rejected.
+// Returns the incumbent and the working plan after the candidate is accepted or rejected.
 fn accepted_plans(
     alloc: Global,
     problem: &Problem,
@@ -119,7 +119,7 @@ impl StepInput<'_> {
         }
     }
 
-    // Returns the used vehicles, from 0.
+    // Returns the indices, from 0, of the vehicles with a stop.
     fn used(&self, alloc: Global) -> Result<Vec<usize>, OutOfMemory> {
         let mut used = Vec::new(alloc);
         for (index, route) in self.plan.routes.as_slice().iter().enumerate() {
@@ -206,7 +206,7 @@ impl StepInput<'_> {
     }
 }
 
-// Returns the index, from 0, of the item that the word picks among this number of items.
+// Returns the index, from 0, of the item that the word picks among `things` items.
 fn picked(word: u32, things: usize) -> usize {
     ((u128::from(word) * things as u128) >> 32) as usize
 }
@@ -225,7 +225,7 @@ fn cut(pins: &Pins, work: &Plan, index: usize, word: u32) -> u64 {
     pinned.saturating_add(picked(word, places)) as u64
 }
 
-// Draws one to eight of the names, each from the remaining ones.
+// Draws one to eight of the names, each from the remaining ones; fewer if there are fewer names.
 fn drawn(alloc: Global, names: Vec<u32>, words: &[u32; 16]) -> Result<Vec<u32>, OutOfMemory> {
     let mut left = names;
     let mut drawn = Vec::new(alloc);

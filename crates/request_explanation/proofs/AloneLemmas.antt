@@ -23,9 +23,9 @@ use Rattle.route_sched.proofs.KnownStops.{place-return, place-stop}
 use Rattle.plan_audit.specs.Locality.{FeasibleAloneDecidesFeasibility}
 use Rattle.plan_audit.specs.Passes.{feasible_alone, keeps_times}
 use Rattle.slack_tables.specs.Insertion.{KeepsLimits}
-use Rattle.move_ops.proofs.Fitting.{fits, route_limits}
-use Rattle.move_ops.proofs.Inserting.{in_numbers, numbers_of, valid_request}
-use Rattle.move_ops.proofs.Times.{none_some, one_here, times}
+use Rattle.move_ops.proofs.FitLemmas.{fits, route_limits}
+use Rattle.move_ops.proofs.InsertionLemmas.{in_numbers, numbers_of, valid_request}
+use Rattle.move_ops.proofs.OccurrenceLemmas.{none_some, one_here, times}
 use Rattle.plan_explain.specs.Tables.{row_after}
 use Rattle.request_explanation.specs.Laws.{AloneIsJudgedByRules}
 use Rattle.request_explanation.specs.LimitViolations.{is_heavy, is_late, lateness_at, lateness_in, violation_of, overload_at, overload_in}

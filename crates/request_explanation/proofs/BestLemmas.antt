@@ -4,7 +4,7 @@ use Rattle.std.specs.Prelude.{⊤}
 use Rattle.std.specs.List.{AllByRecursion}
 use Rattle.std.proofs.lemmas.Bool.{cases_Bool, cases_lt, false≢true}
 use Rattle.std.proofs.lemmas.Bool.Decides.{leb_tells}
-use Rattle.move_ops.proofs.Times.{none_some, some_same}
+use Rattle.move_ops.proofs.OccurrenceLemmas.{none_some, some_same}
 use Rattle.request_explanation.specs.Laws.{NoneIsBetter, OverloadIsLastResort}
 use Rattle.request_explanation.specs.LimitViolations.{excess_of, is_overload, violates_less}
 use Rattle.request_explanation.specs.Trials.{best_from, better, is_better, trials}

@@ -26,8 +26,8 @@ use Rattle.plan_audit.specs.declared.rules.Verdict.TheVariants.{Broken}
 use Rattle.plan_audit.proofs.AloneLemmas.{delivered_fault, late_fault, load_fault, missing_fault, only_route, return_fault}
 use Rattle.plan_audit.proofs.FirstLemmas.{reported_nothing}
 use Rattle.plan_audit.proofs.TimeLemmas.{nonzero}
-use Rattle.move_ops.proofs.Inserting.{in_numbers, valid_request}
-use Rattle.move_ops.proofs.Times.{none_some, one_here, some_same}
+use Rattle.move_ops.proofs.InsertionLemmas.{in_numbers, valid_request}
+use Rattle.move_ops.proofs.OccurrenceLemmas.{none_some, one_here, some_same}
 use Rattle.plan_explain.specs.Tables.{row_after}
 use Rattle.plan_explain.specs.declared.rows.Row.{Row}
 use Rattle.request_explanation.specs.Laws.{AloneMatchesFault, MatchesFault}

@@ -22,7 +22,7 @@ use Rattle.route_sched.proofs.Steps.{load-next, start-next}
 use Rattle.slack_tables.specs.Along.{length_along}
 use Rattle.slack_tables.proofs.AlongLemmas.{length-next, same-length, same-load, same-start, spliced-length}
 use Rattle.slack_tables.proofs.CourseLemmas.{length-is, load-is, start-is}
-use Rattle.move_ops.proofs.Times.{none_some}
+use Rattle.move_ops.proofs.OccurrenceLemmas.{none_some}
 use Rattle.plan_explain.specs.Tables.{arrival, row_after, rows_of}
 use Rattle.plan_explain.specs.declared.rows.Row.{Row}
 use Rattle.request_explanation.specs.LimitViolations.{is_heavy, is_late, lateness_at, lateness_in, violation_in, violation_of, overload_at, overload_in}

@@ -8,7 +8,7 @@ use Rattle.plan_types.specs.Instance.{Instance}
 use Rattle.plan_types.specs.declared.requests.Kind.{Kind}
 use Rattle.plan_types.specs.declared.requests.Kind.TheVariants.{LiLim, Vrp}
 use Rattle.route_sched.specs.Route.{stop_numbered}
-use Rattle.move_ops.proofs.Times.{none_some}
+use Rattle.move_ops.proofs.OccurrenceLemmas.{none_some}
 use Rattle.plan_explain.specs.Tables.{rows_of}
 use Rattle.plan_explain.specs.declared.rows.Row.{Row}
 use Rattle.request_explanation.specs.LimitViolations.{excess_of, is_heavy, is_late, is_load, is_overload, lateness_in, violation_in, violation_of, violates_less, overload_in, time_limit}

@@ -10,9 +10,9 @@ use Rattle.plan_types.specs.declared.requests.Request.TheVariants.{Pair, Single}
 use Rattle.route_sched.specs.Cost.{is_planned}
 use Rattle.route_sched.specs.Route.{AreDistinctStops, IsKnownStop}
 use Rattle.move_ops.specs.Insertion.{inserted, route_of, request_named}
-use Rattle.move_ops.proofs.Inserting.{few_numbers, found_live, in_numbers, nowhere, numbers_of, times_inserted, valid_request}
-use Rattle.move_ops.proofs.Replacing.{times_in_vehicle}
-use Rattle.move_ops.proofs.Times.{once_few, once_from, once_live, times}
+use Rattle.move_ops.proofs.InsertionLemmas.{few_numbers, found_known, in_numbers, nowhere, numbers_of, times_inserted, valid_request}
+use Rattle.move_ops.proofs.ReplacementLemmas.{times_in_vehicle}
+use Rattle.move_ops.proofs.OccurrenceLemmas.{once_few, once_from, once_known, times}
 use Rattle.request_explanation.specs.Trials.{MayTake}
 use Rattle.request_explanation.specs.TrialConditions.{CanBeTried}
 use Rattle.request_explanation.specs.Why.{alone_route}
@@ -31,7 +31,7 @@ module _ (found : NamedRequestsAreFound) (p : Instance) (valid : IsInstance p) (
   few n = few_numbers n r (valid_request p.requests name r (valid.valid) named)
 
   live : (n : ℕ) → 1 ≤ times n (numbers_of r) → IsKnownStop p n
-  live n some = found_live found p name n r valid named (in_numbers n r some)
+  live n some = found_known found p name n r valid named (in_numbers n r some)
 
   -- the stops of a current request are known
   pub alone_once : AreDistinctStops p (alone_route r)
@@ -57,7 +57,7 @@ module _ (found : NamedRequestsAreFound) (p : Instance) (valid : IsInstance p) (
           let e = times_inserted n r i j route in
           elim (cases_lt 0 (times n (numbers_of r))) [
             | inl here ↦ live n (omega arith)
-            | inr free ↦ once_live p route once n (omega arith)
+            | inr free ↦ once_known p route once n (omega arith)
           ]
 
   may_take : (routes : List (List ℕ)) → All (AreDistinctStops p) routes → is_planned routes r ≡ false → All (MayTake p r) routes

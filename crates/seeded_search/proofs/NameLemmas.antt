@@ -46,7 +46,7 @@ use Rattle.route_sched.specs.Cost.{is_planned, unplanned_count}
 use Rattle.move_ops.specs.Insertion.{route_of}
 use Rattle.move_ops.specs.Drafts.{AreIdleAfter}
 use Rattle.move_ops.specs.Moves.{is_movable}
-use Rattle.move_ops.proofs.Times.{none_some, some_same}
+use Rattle.move_ops.proofs.OccurrenceLemmas.{none_some, some_same}
 use Rattle.seeded_search.specs.Names.{name_where, names_where}
 use Rattle.seeded_search.specs.Steps.{movable_names, unplanned_names}
 
@@ -173,13 +173,13 @@ used_passed routes used new all k so_far within is made =
     ap (λ l. l ++ used_from routes (k + 1)) made
     ∙ (ap (λ l. used ++ l) (sym (used_more routes k within ∙ ap (λ b. cond b ((k + 1) ∷ used_from routes (k + 1)) (used_from routes (k + 1))) is)) ∙ so_far)
 
--- if no vehicle after `front` has a stop, none of n vehicles from a later one on is used
-unused : (routes : List (List ℕ)) (front a n : ℕ) → front < a → AreIdleAfter front routes → filter (is_used routes) (range_with_len a n) ≡ []
-unused routes front a zero above idle = refl
-unused routes front a (suc n) above idle =
+-- if no vehicle after `used_len` has a stop, none of n vehicles from a later one on is used
+unused : (routes : List (List ℕ)) (used_len a n : ℕ) → used_len < a → AreIdleAfter used_len routes → filter (is_used routes) (range_with_len a n) ≡ []
+unused routes used_len a zero above idle = refl
+unused routes used_len a (suc n) above idle =
     let not_here : is_used routes a ≡ false = ap (λ k. not (k == 0)) (idle a above) in
-    ap (λ b. cond b (a ∷ filter (is_used routes) (range_with_len (a + 1) n)) (filter (is_used routes) (range_with_len (a + 1) n))) not_here ∙ unused routes front (a + 1) n (omega arith) idle
+    ap (λ b. cond b (a ∷ filter (is_used routes) (range_with_len (a + 1) n)) (filter (is_used routes) (range_with_len (a + 1) n))) not_here ∙ unused routes used_len (a + 1) n (omega arith) idle
 
-pub used_end : (routes : List (List ℕ)) (used all : List ℕ) (front : ℕ) → used ++ used_from routes front ≡ all → AreIdleAfter front routes → used ≡ all
-used_end routes used all front so_far idle =
-    sym (append-nil used) ∙ (ap (λ l. used ++ l) (sym (unused routes front (front + 1) (length routes - front) (omega arith) idle)) ∙ so_far)
+pub used_end : (routes : List (List ℕ)) (used all : List ℕ) (used_len : ℕ) → used ++ used_from routes used_len ≡ all → AreIdleAfter used_len routes → used ≡ all
+used_end routes used all used_len so_far idle =
+    sym (append-nil used) ∙ (ap (λ l. used ++ l) (sym (unused routes used_len (used_len + 1) (length routes - used_len) (omega arith) idle)) ∙ so_far)

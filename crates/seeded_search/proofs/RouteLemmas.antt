@@ -32,10 +32,10 @@ no_stops [] (y ∷ ys) none some = absurd (omega arith)
 no_stops (x ∷ xs) ys some none = absurd (omega arith)
 
 -- later routes are unchanged, and are empty in both plans
-pub same_all : (old routes plan : List (List ℕ)) (n front other : ℕ) → length routes ≡ length plan → length old ≡ length plan → SameBelow routes plan n
-    → ((k : ℕ) → n ≤ k → get_or routes k [] ≡ get_or old k []) → ((v : ℕ) → n < v → v ≤ length old → (front < v) × (other < v))
-    → AreIdleAfter front old → AreIdleAfter other plan → routes ≡ plan
-same_all old routes plan n front other long before same stays enough idle also = ext_get_or [] routes plan long
+pub same_all : (old routes plan : List (List ℕ)) (n used_len other : ℕ) → length routes ≡ length plan → length old ≡ length plan → SameBelow routes plan n
+    → ((k : ℕ) → n ≤ k → get_or routes k [] ≡ get_or old k []) → ((v : ℕ) → n < v → v ≤ length old → (used_len < v) × (other < v))
+    → AreIdleAfter used_len old → AreIdleAfter other plan → routes ≡ plan
+same_all old routes plan n used_len other long before same stays enough idle also = ext_get_or [] routes plan long
     (λ k low. elim (cases_lt k n) [
       | inl below ↦ same k below
       | inr above ↦ (

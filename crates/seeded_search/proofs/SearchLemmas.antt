@@ -48,7 +48,7 @@ use Rattle.plan_audit.specs.Passes.{passes}
 use Rattle.move_ops.specs.Insertion.{Insertion, request_named, passing, best_insertion, inserted_at}
 use Rattle.move_ops.specs.Laws.{RelocationsNeverCostMore}
 use Rattle.move_ops.specs.Moves.{removed, exchanged, crossed}
-use Rattle.move_ops.proofs.Times.{none_some, some_same}
+use Rattle.move_ops.proofs.OccurrenceLemmas.{none_some, some_same}
 use Rattle.seeded_search.specs.Words.{pick, step_words}
 use Rattle.seeded_search.specs.Steps.{
   picked,
@@ -74,7 +74,7 @@ use Rattle.seeded_search.specs.Steps.{
   steps,
   search_plans,
 }
-use Rattle.move_ops.specs.Costing.{IsCostIfMade}
+use Rattle.move_ops.specs.MoveCosts.{IsCostIfMade}
 use Rattle.move_ops.specs.Drafts.{placed, AreIdleAfter, DraftState, base_of, draft_of, IsDraftOf, IsMade}
 use Rattle.seeded_search.specs.SpatialIndex.{AreNearestStopLists}
 use Rattle.seeded_search.specs.SearchStates.{AreListsOf, IsMadeIfNear, IsSearchState, HasNewWorkingPlan}

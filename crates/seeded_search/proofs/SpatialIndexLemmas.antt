@@ -1,8 +1,7 @@
 -- Lists of nearest stops that were not made yet are valid. The eastings of stops, collected number by number and
 -- then sorted, are those of all stops.
-use Rattle.std.proofs.Common.{◌≡◌, ℕ, ◌+◌, ◌<◌, ◌++◌, [], ◌∷◌, List, All, Option, Some, None, refl, sym, ap, subst, ◌∙◌, inl, inr, arith, Vec, Global, slice_get}
+use Rattle.std.proofs.Common.{◌≡◌, ℕ, ◌+◌, ◌++◌, [], List, All, Option, Some, None, refl, sym, ap, subst, inl, inr, arith, Vec, Global, slice_get}
 use Rattle.std.specs.Prelude.{IfSome, IsSome}
-use Rattle.std.specs.List.{Contains}
 use Rattle.std.specs.List.Sorted.{IsPermutation}
 use Rattle.std.specs.Option.{option_map, option_to_list}
 use Rattle.std.proofs.lemmas.Bool.{cases_order}
@@ -15,12 +14,12 @@ use Rattle.route_sched.specs.Route.{IsKnownStop}
 use Rattle.seeded_search.specs.SpatialIndex.{IsNearestStopListOf, east_of, easting_at, IsEasting, HaveStop, AreEastingsBelow}
 use Rattle.seeded_search.specs.declared.spatial_index.Easting.{Easting}
 
-pub none_made : (p : Instance) (nearest_stops : List (Vec ℕ Global)) → All (λ front. front.items ≡ []) nearest_stops
-    → (k : ℕ) → IfSome (slice_get nearest_stops k) (λ front. IsNearestStopListOf p k front.items)
+pub none_made : (p : Instance) (nearest_stops : List (Vec ℕ Global)) → All (λ stops. stops.items ≡ []) nearest_stops
+    → (k : ℕ) → IfSome (slice_get nearest_stops k) (λ stops. IsNearestStopListOf p k stops.items)
 none_made p nearest_stops all k = elim (slice_get_cases nearest_stops k).1 [
-  | inl some ↦ subst (λ o. IfSome o (λ front. IsNearestStopListOf p k front.items)) (sym some.2)
-      (inl (subst (λ front. front.items ≡ []) some.3 (all k some.0 some.1)))
-  | inr none ↦ subst (λ o. IfSome o (λ front. IsNearestStopListOf p k front.items)) (sym none.1) tt
+  | inl some ↦ subst (λ o. IfSome o (λ stops. IsNearestStopListOf p k stops.items)) (sym some.2)
+      (inl (subst (λ stops. stops.items ≡ []) some.3 (all k some.0 some.1)))
+  | inr none ↦ subst (λ o. IfSome o (λ stops. IsNearestStopListOf p k stops.items)) (sym none.1) tt
 ]
 
 -- ---- the eastings of the stops so far, with the stop of one more number
@@ -39,12 +38,12 @@ module _ (p : Instance) where
   pub one_below : (k : ℕ) (es : List Easting) → AreEastingsBelow p k es → AreEastingsBelow p (k + 1) (es ++ easting_at p k)
   one_below k es is = record {
     each = All-append (IsEasting p) es (easting_at p k) is.each (one_is k (stop_at p k) refl);
-    all = λ n low live. elim (cases_order n k) [
+    all = λ n low known. elim (cases_order n k) [
       | inl e ↦ (
-          let there = subst (HaveStop (easting_at p k)) (sym e) (one_has k (stop_at p k) (subst (IsKnownStop p) e live)) in
+          let there = subst (HaveStop (easting_at p k)) (sym e) (one_has k (stop_at p k) (subst (IsKnownStop p) e known)) in
           (there.0, there.1, Contains-append_right es (easting_at p k) there.0 there.2))
       | inr other ↦ elim other [
-        | inl less ↦ (let there = is.all n less live in (there.0, there.1, Contains-append_left es (easting_at p k) there.0 there.2))
+        | inl less ↦ (let there = is.all n less known in (there.0, there.1, Contains-append_left es (easting_at p k) there.0 there.2))
         | inr more ↦ absurd (omega arith)
       ]
     ];

@@ -31,8 +31,8 @@ step_there s h =
 pub step_seen : (g : ChaCha) (s : NextStep) → s.seed < 2 ^ 64 → g ≡ before_step s → next_step_of g ≡ s
 step_seen g s h e = ap next_step_of e ∙ step_there s h
 
-pub stands_before : (g : ChaCha) (s : NextStep) → s.seed < 2 ^ 64 → g ≡ before_step s → IsBeforeStep g
-stands_before g s h e = e ∙ ap before_step (sym (step_seen g s h e))
+pub is_before_step : (g : ChaCha) (s : NextStep) → s.seed < 2 ^ 64 → g ≡ before_step s → IsBeforeStep g
+is_before_step g s h e = e ∙ ap before_step (sym (step_seen g s h e))
 
 pub step_is_block : (seed step : ℕ) → step_words seed step ≡ block seed step
 unfolding step_words word

@@ -14,6 +14,7 @@
 //! - `spatial_index`: the stops nearest to each stop, for annealing (`anneal_search`).
 //! - `placing`: requests inserted one after another, until the plan is known to be too costly.
 //! - `operators`: the candidate that a step's words make.
+//! - `search_context`: the problem, the pins and the numbers that all steps share.
 //! - `search_state`: the state of a search between steps, and how it accepts a candidate.
 //! - `incumbent`: the incumbent's routes, of which only changed ones are copied.
 //! - `search`: one step, and many steps.
@@ -51,6 +52,7 @@ mod lists;
 mod operators;
 mod placing;
 mod search;
+mod search_context;
 mod search_state;
 mod spatial_index;
 mod stream;
@@ -63,6 +65,7 @@ pub use laws::{
 pub use lists::RequestLists;
 pub use placing::{place_all, place_all_if_near};
 pub use search::{Found, continue_search, search_step, search_steps};
+pub use search_context::SearchContext;
 pub use search_state::SearchState;
 pub use spatial_index::{Easting, RoutePlace, SpatialIndex, east_of};
 pub use stream::{StepWords, words};

@@ -14,9 +14,10 @@ use crate::draws::{drawn, picked, picked_vehicle, place};
 use crate::lists::{RequestLists, used_vehicles};
 use crate::pick;
 use crate::placing::place_all_if_near;
+use crate::search_context::SearchContext;
 use move_ops::{Draft, route_of};
 use plan_audit::passing_is_local;
-use plan_types::{OutOfMemory, Pins, Problem};
+use plan_types::{OutOfMemory, Pins};
 use std::alloc::Global;
 
 /// Turns the draft into the candidate of a step's words, if there is one: one request is relocated, two are
@@ -26,79 +27,80 @@ use std::alloc::Global;
 #[tactic(auto, unfolding(crate::specs::Steps::candidate), using(crate::proofs::SearchLemmas::made_near))]
 pub(crate) fn make(
     alloc: Global,
-    problem: &Problem,
-    pins: &Pins,
+    context: &SearchContext,
     draft: &mut Draft,
     lists: &RequestLists,
     words: &[u32; 16],
     near: &Threshold,
 ) -> Result<bool, OutOfMemory>
-    requires draft { IsDraftOf problem.now pins.now.routes draft.old }
+    requires draft { IsDraftOf context.now.problem.now context.now.pins.now.routes draft.old }
     requires settled { draft_of draft.old ≡ base_of draft.old }
-    requires lists { AreListsOf problem.now pins.now.routes (draft_of draft.old) lists.now }
-    ensures is { OnOk result (IsDraftOf problem.now pins.now.routes draft.new) }
+    requires lists { let c = context.now in
+        AreListsOf c.problem.now c.pins.now.routes (draft_of draft.old) lists.now }
+    ensures is { let c = context.now in
+        OnOk result (IsDraftOf c.problem.now c.pins.now.routes draft.new) }
     ensures base { OnOk result (base_of draft.new ≡ base_of draft.old) }
-    ensures made { IfOk result (λ made.
-        IsMadeIfNear problem.now near.now.deviation near.now.best.now
-        (candidate problem.now pins.now.routes (draft_of draft.old) words.now) made
+    ensures made { let c = context.now in IfOk result (λ made.
+        IsMadeIfNear c.problem.now near.now.deviation near.now.best.now
+        (candidate c.problem.now c.pins.now.routes (draft_of draft.old) words.now) made
         draft.old draft.new) }
 {
     match pick(words[0], 4) {
-        0 => relocate(problem, pins, draft, &lists.movable, words[1], near),
-        1 => exchange(problem, pins, draft, &lists.movable, words, near),
-        2 => cross(alloc, problem, pins, draft, words, near),
-        _ => recreate(alloc, problem, pins, draft, lists, words, near),
+        0 => relocate(context, draft, &lists.movable, words[1], near),
+        1 => exchange(context, draft, &lists.movable, words, near),
+        2 => cross(alloc, context, draft, words, near),
+        _ => recreate(alloc, context, draft, lists, words, near),
     }
 }
 
 // Removes a request and inserts it at its best place, unless the draft would then be far from the incumbent.
 #[tactic(auto, using(crate::proofs::SearchLemmas::made_near))]
 fn relocate(
-    problem: &Problem,
-    pins: &Pins,
+    context: &SearchContext,
     draft: &mut Draft,
     movable: &[u32],
     word: u32,
     near: &Threshold,
 ) -> Result<bool, OutOfMemory>
-    requires draft { IsDraftOf problem.now pins.now.routes draft.old }
+    requires draft { IsDraftOf context.now.problem.now context.now.pins.now.routes draft.old }
     requires settled { draft_of draft.old ≡ base_of draft.old }
-    requires movable { movable.now
-        ≡ movable_names problem.now pins.now.routes (draft_of draft.old) }
-    ensures is { OnOk result (IsDraftOf problem.now pins.now.routes draft.new) }
+    requires movable { let c = context.now in
+        movable.now ≡ movable_names c.problem.now c.pins.now.routes (draft_of draft.old) }
+    ensures is { let c = context.now in
+        OnOk result (IsDraftOf c.problem.now c.pins.now.routes draft.new) }
     ensures base { OnOk result (base_of draft.new ≡ base_of draft.old) }
-    ensures made { IfOk result (λ made.
-        IsMadeIfNear problem.now near.now.deviation near.now.best.now
-        (relocated problem.now pins.now.routes (draft_of draft.old) word) made draft.old
+    ensures made { let c = context.now in IfOk result (λ made.
+        IsMadeIfNear c.problem.now near.now.deviation near.now.best.now
+        (relocated c.problem.now c.pins.now.routes (draft_of draft.old) word) made draft.old
         draft.new) }
 {
     let Some(name) = picked(word, movable) else {
         return Ok(false);
     };
-    if !draft.remove(problem, pins, &[name])? {
+    if !draft.remove(context.problem, context.pins, &[name])? {
         return Ok(false);
     }
-    place_all_if_near(problem, pins, draft, &[name], near)
+    place_all_if_near(context, draft, &[name], near)
 }
 
 // Exchanges two requests, unless it is known that the draft would then be far from the incumbent.
 #[tactic(auto, using(crate::proofs::SearchLemmas::made_near, crate::proofs::SearchLemmas::foreseen_far))]
 fn exchange(
-    problem: &Problem,
-    pins: &Pins,
+    context: &SearchContext,
     draft: &mut Draft,
     movable: &[u32],
     words: &[u32; 16],
     near: &Threshold,
 ) -> Result<bool, OutOfMemory>
-    requires draft { IsDraftOf problem.now pins.now.routes draft.old }
-    requires movable { movable.now
-        ≡ movable_names problem.now pins.now.routes (draft_of draft.old) }
-    ensures is { OnOk result (IsDraftOf problem.now pins.now.routes draft.new) }
+    requires draft { IsDraftOf context.now.problem.now context.now.pins.now.routes draft.old }
+    requires movable { let c = context.now in
+        movable.now ≡ movable_names c.problem.now c.pins.now.routes (draft_of draft.old) }
+    ensures is { let c = context.now in
+        OnOk result (IsDraftOf c.problem.now c.pins.now.routes draft.new) }
     ensures base { OnOk result (base_of draft.new ≡ base_of draft.old) }
-    ensures made { IfOk result (λ made.
-        IsMadeIfNear problem.now near.now.deviation near.now.best.now
-        (exchanged_by problem.now pins.now.routes (draft_of draft.old) (slice_index words.now 1)
+    ensures made { let c = context.now in IfOk result (λ made.
+        IsMadeIfNear c.problem.now near.now.deviation near.now.best.now
+        (exchanged_by c.problem.now c.pins.now.routes (draft_of draft.old) (slice_index words.now 1)
         (slice_index words.now 2)) made draft.old draft.new) }
 {
     let Some(a) = picked(words[1], movable) else {
@@ -107,28 +109,28 @@ fn exchange(
     let Some(b) = picked(words[2], movable) else {
         return Ok(false);
     };
-    if near.is_far(draft.exchange_cost(problem, pins, a, b)) {
+    if near.is_far(draft.exchange_cost(context.problem, context.pins, a, b)) {
         return Ok(false);
     }
-    draft.exchange(problem, pins, a, b)
+    draft.exchange(context.problem, context.pins, a, b)
 }
 
 // Exchanges the ends of two routes, unless it is known that the draft would then be far from the incumbent.
 #[tactic(auto, using(crate::proofs::SearchLemmas::made_near, crate::proofs::SearchLemmas::foreseen_far))]
 fn cross(
     alloc: Global,
-    problem: &Problem,
-    pins: &Pins,
+    context: &SearchContext,
     draft: &mut Draft,
     words: &[u32; 16],
     near: &Threshold,
 ) -> Result<bool, OutOfMemory>
-    requires { IsDraftOf problem.now pins.now.routes draft.old }
-    ensures is { OnOk result (IsDraftOf problem.now pins.now.routes draft.new) }
+    requires { IsDraftOf context.now.problem.now context.now.pins.now.routes draft.old }
+    ensures is { let c = context.now in
+        OnOk result (IsDraftOf c.problem.now c.pins.now.routes draft.new) }
     ensures base { OnOk result (base_of draft.new ≡ base_of draft.old) }
-    ensures made { IfOk result (λ made.
-        IsMadeIfNear problem.now near.now.deviation near.now.best.now
-        (crossed_by problem.now pins.now.routes (draft_of draft.old) words.now) made
+    ensures made { let c = context.now in IfOk result (λ made.
+        IsMadeIfNear c.problem.now near.now.deviation near.now.best.now
+        (crossed_by c.problem.now c.pins.now.routes (draft_of draft.old) words.now) made
         draft.old draft.new) }
 {
     passing_is_local();
@@ -139,12 +141,12 @@ fn cross(
     let Some(b) = picked_vehicle(words[2], &used) else {
         return Ok(false);
     };
-    let a_cut = cut(pins, draft, a, words[3]);
-    let b_cut = cut(pins, draft, b, words[4]);
-    if near.is_far(draft.cross_cost(problem, pins, a, a_cut, b, b_cut)) {
+    let a_cut = cut(context.pins, draft, a, words[3]);
+    let b_cut = cut(context.pins, draft, b, words[4]);
+    if near.is_far(draft.cross_cost(context.problem, context.pins, a, a_cut, b, b_cut)) {
         return Ok(false);
     }
-    draft.cross(problem, pins, a, a_cut, b, b_cut)
+    draft.cross(context.problem, context.pins, a, a_cut, b, b_cut)
 }
 
 // Returns the number of stops before the cut that the word makes in the vehicle's route. The cut is never within
@@ -162,32 +164,33 @@ fn cut(pins: &Pins, draft: &Draft, vehicle: u64, word: u32) -> u64
 #[tactic(auto, using(crate::proofs::SearchLemmas::made_near))]
 fn recreate(
     alloc: Global,
-    problem: &Problem,
-    pins: &Pins,
+    context: &SearchContext,
     draft: &mut Draft,
     lists: &RequestLists,
     words: &[u32; 16],
     near: &Threshold,
 ) -> Result<bool, OutOfMemory>
-    requires draft { IsDraftOf problem.now pins.now.routes draft.old }
+    requires draft { IsDraftOf context.now.problem.now context.now.pins.now.routes draft.old }
     requires settled { draft_of draft.old ≡ base_of draft.old }
-    requires lists { AreListsOf problem.now pins.now.routes (draft_of draft.old) lists.now }
-    ensures is { OnOk result (IsDraftOf problem.now pins.now.routes draft.new) }
+    requires lists { let c = context.now in
+        AreListsOf c.problem.now c.pins.now.routes (draft_of draft.old) lists.now }
+    ensures is { let c = context.now in
+        OnOk result (IsDraftOf c.problem.now c.pins.now.routes draft.new) }
     ensures base { OnOk result (base_of draft.new ≡ base_of draft.old) }
-    ensures made { IfOk result (λ made.
-        IsMadeIfNear problem.now near.now.deviation near.now.best.now
-        (recreated_by problem.now pins.now.routes (draft_of draft.old) words.now) made
+    ensures made { let c = context.now in IfOk result (λ made.
+        IsMadeIfNear c.problem.now near.now.deviation near.now.best.now
+        (recreated_by c.problem.now c.pins.now.routes (draft_of draft.old) words.now) made
         draft.old draft.new) }
 {
     let mut names = ruined_names(alloc, &lists.movable, words)?;
     if names.is_empty() {
         return Ok(false);
     }
-    if !draft.remove(problem, pins, &names)? {
+    if !draft.remove(context.problem, context.pins, &names)? {
         return Ok(false);
     }
     names.extend_from_slice(&lists.unplanned)?;
-    place_all_if_near(problem, pins, draft, &names, near)
+    place_all_if_near(context, draft, &names, near)
 }
 
 // Returns the names of the requests to remove, one to eight, in the order drawn.

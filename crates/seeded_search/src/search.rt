@@ -1,10 +1,12 @@
 //! One step of a search, and many: each step takes its words and changes the search state.
-ghost use Rattle.std.specs.Prelude.{◌≡◌, ◌+◌, ◌<◌, ◌≤◌, ◌^◌, true, IfOk};
+ghost use Rattle.std.specs.Prelude.{◌≡◌, ◌+◌, ◌<◌, ◌≤◌, true, IfOk};
+ghost use Rattle.plan_types.specs.declared.limits.TheConstants.{MAX_STEPS};
 ghost use Rattle.plan_audit.specs.Passes.{passes};
 ghost use Rattle.seeded_search.specs.Steps.{search_plans, step as one_step, steps};
 ghost use Rattle.seeded_search.specs.StepLaws.{BothPass};
 ghost use Rattle.seeded_search.specs.SearchStates.{IsSearchState, search_plans_of};
 
+use crate::search_context::SearchContext;
 use crate::search_state::SearchState;
 use crate::stream::StepWords;
 use plan_types::{OutOfMemory, Pins, Plan, Problem};
@@ -26,7 +28,7 @@ pub struct Found {
 /// and uses fewer vehicles; or as many of both, and its distance is at most `deviation` greater. It also becomes
 /// the incumbent if it costs no more. Without a candidate nothing changes.
 ///
-/// Both plans must pass with these pins. Steps count from 0 and are below 2^60.
+/// Both plans must pass with these pins. Steps count from 0 and are below `MAX_STEPS`.
 pub fn search_step(
     alloc: Global,
     problem: &Problem,
@@ -39,7 +41,7 @@ pub fn search_step(
 ) -> Result<Found, OutOfMemory>
     requires plan { passes problem.now pins.now.routes plan.now.routes ≡ true }
     requires work { passes problem.now pins.now.routes work.now.routes ≡ true }
-    requires step { step < 2 ^ 60 }
+    requires step { step < MAX_STEPS }
     ensures found { IfOk result (λ found. search_plans found.plan.routes found.work.routes
         ≡ one_step problem.now pins.now.routes deviation seed step
         (search_plans plan.now.routes work.now.routes)) }
@@ -51,7 +53,7 @@ pub fn search_step(
 }
 
 /// Makes `count` steps of a search, from step number `step` on, each as `search_step` makes it. The number of
-/// the last step is below 2^60.
+/// the last step is below `MAX_STEPS`.
 pub fn search_steps(
     alloc: Global,
     problem: &Problem,
@@ -65,8 +67,8 @@ pub fn search_steps(
 ) -> Result<Found, OutOfMemory>
     requires plan { passes problem.now pins.now.routes plan.now.routes ≡ true }
     requires work { passes problem.now pins.now.routes work.now.routes ≡ true }
-    requires first { step < 2 ^ 60 }
-    requires last { step + count ≤ 2 ^ 60 }
+    requires first { step < MAX_STEPS }
+    requires last { step + count ≤ MAX_STEPS }
     ensures found { IfOk result (λ found. search_plans found.plan.routes found.work.routes
         ≡ steps problem.now pins.now.routes deviation seed step count
         (search_plans plan.now.routes work.now.routes)) }
@@ -74,18 +76,14 @@ pub fn search_steps(
         (λ found. BothPass problem.now pins.now.routes
         (search_plans found.plan.routes found.work.routes)) }
 {
-    let search_state = SearchState::begin(alloc, problem, pins, plan, work)?;
-    continue_search(
-        alloc,
+    let context = SearchContext {
         problem,
         pins,
-        search_state,
         deviation,
         seed,
-        step,
-        count,
-    )?
-    .end(alloc)
+    };
+    let search_state = SearchState::begin(alloc, &context, plan, work)?;
+    continue_search(alloc, &context, search_state, step, count)?.end(alloc)
 }
 
 /// Makes `count` steps from a search state, from step number `step` on. If an allocation fails, the state is
@@ -93,25 +91,25 @@ pub fn search_steps(
 #[tactic(auto, unfolding(crate::specs::Steps::step, crate::specs::Steps::steps))]
 pub fn continue_search(
     alloc: Global,
-    problem: &Problem,
-    pins: &Pins,
+    context: &SearchContext,
     search_state: SearchState,
-    deviation: u32,
-    seed: u64,
     step: u64,
     count: u64,
 ) -> Result<SearchState, OutOfMemory>
-    requires search_state { IsSearchState problem.now pins.now.routes search_state }
-    requires first { step < 2 ^ 60 }
-    requires last { step + count ≤ 2 ^ 60 }
-    ensures search_plans { IfOk result (λ on. search_plans_of on
-        ≡ steps problem.now pins.now.routes deviation seed step count (search_plans_of search_state)) }
-    ensures search_state { IfOk result (λ on. IsSearchState problem.now pins.now.routes on) }
+    requires search_state { let c = context.now in
+        IsSearchState c.problem.now c.pins.now.routes search_state }
+    requires first { step < MAX_STEPS }
+    requires last { step + count ≤ MAX_STEPS }
+    ensures search_plans { let c = context.now in IfOk result (λ on. search_plans_of on
+        ≡ steps c.problem.now c.pins.now.routes c.deviation c.seed step count
+        (search_plans_of search_state)) }
+    ensures search_state { let c = context.now in
+        IfOk result (λ on. IsSearchState c.problem.now c.pins.now.routes on) }
 {
     let mut search_state = search_state;
-    let mut words = StepWords::from_step(seed, step);
+    let mut words = StepWords::from_step(context.seed, step);
     for done in 0..count {
-        search_state.step(alloc, problem, pins, deviation, &words.next_step())?;
+        search_state.step(alloc, context, &words.next_step())?;
     }
     Ok(search_state)
 }

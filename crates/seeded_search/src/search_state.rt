@@ -20,10 +20,11 @@ use crate::incumbent::copy_draft;
 use crate::lists::RequestLists;
 use crate::operators::make;
 use crate::search::Found;
+use crate::search_context::SearchContext;
 use crate::spatial_index::SpatialIndex;
 use move_ops::Draft;
 use plan_audit::passing_is_local;
-use plan_types::{Cost, OutOfMemory, Pins, Plan, Problem, costs_compare_lexicographically};
+use plan_types::{Cost, OutOfMemory, Plan, costs_compare_lexicographically};
 use route_sched::plan_cost;
 use std::alloc::Global;
 
@@ -50,18 +51,21 @@ impl SearchState {
     /// Returns a search before its first step.
     pub fn begin(
         alloc: Global,
-        problem: &Problem,
-        pins: &Pins,
+        context: &SearchContext,
         plan: &Plan,
         work: &Plan,
     ) -> Result<SearchState, OutOfMemory>
-        requires plan { passes problem.now pins.now.routes plan.now.routes ≡ true }
-        requires work { passes problem.now pins.now.routes work.now.routes ≡ true }
+        requires plan { let c = context.now in
+            passes c.problem.now c.pins.now.routes plan.now.routes ≡ true }
+        requires work { let c = context.now in
+            passes c.problem.now c.pins.now.routes work.now.routes ≡ true }
         ensures search_plans { IfOk result
             (λ search_state. search_plans_of search_state ≡ search_plans plan.now.routes work.now.routes) }
-        ensures search_state { IfOk result (λ search_state. IsSearchState problem.now pins.now.routes search_state) }
+        ensures search_state { let c = context.now in
+            IfOk result (λ search_state. IsSearchState c.problem.now c.pins.now.routes search_state) }
     {
         passing_is_local();
+        let SearchContext { problem, pins, .. } = *context;
         let draft = Draft::build(alloc, problem, pins, work)?;
         let lists = RequestLists::build(alloc, problem, pins, &draft)?;
         Ok(SearchState {
@@ -79,63 +83,49 @@ impl SearchState {
     pub(crate) fn step(
         &mut self,
         alloc: Global,
-        problem: &Problem,
-        pins: &Pins,
-        deviation: u32,
+        context: &SearchContext,
         words: &[u32; 16],
     ) -> Result<(), OutOfMemory>
-        requires { IsSearchState problem.now pins.now.routes self.old }
-        ensures search_plans { OnOk result
-            (search_plans_of self.new ≡ after_candidate_if_any problem.now deviation (search_plans_of self.old)
-            (candidate problem.now pins.now.routes (base_of self.old.draft) words.now)) }
-        ensures search_state { OnOk result (IsSearchState problem.now pins.now.routes self.new) }
+        requires { IsSearchState context.now.problem.now context.now.pins.now.routes self.old }
+        ensures search_plans { let c = context.now in OnOk result (search_plans_of self.new
+            ≡ after_candidate_if_any c.problem.now c.deviation (search_plans_of self.old)
+            (candidate c.problem.now c.pins.now.routes (base_of self.old.draft) words.now)) }
+        ensures search_state { let c = context.now in
+            OnOk result (IsSearchState c.problem.now c.pins.now.routes self.new) }
     {
         let near = Threshold {
-            deviation,
+            deviation: context.deviation,
             best: &self.best,
         };
-        if !make(
-            alloc,
-            problem,
-            pins,
-            &mut self.draft,
-            &self.lists,
-            words,
-            &near,
-        )? {
+        if !make(alloc, context, &mut self.draft, &self.lists, words, &near)? {
             return Ok(());
         }
-        self.settle(alloc, problem, pins, deviation)
+        self.settle(alloc, context)
     }
 
     // Accepts the candidate as working plan and incumbent, or only as working plan, or discards it.
-    fn settle(
-        &mut self,
-        alloc: Global,
-        problem: &Problem,
-        pins: &Pins,
-        deviation: u32,
-    ) -> Result<(), OutOfMemory>
-        requires { KeepsSearchState problem.now pins.now.routes self.old }
-        ensures search_plans { OnOk result
-            (search_plans_of self.new ≡ after_candidate problem.now deviation (search_plans_of self.old)
+    fn settle(&mut self, alloc: Global, context: &SearchContext) -> Result<(), OutOfMemory>
+        requires { KeepsSearchState context.now.problem.now context.now.pins.now.routes self.old }
+        ensures search_plans { let c = context.now in OnOk result (search_plans_of self.new
+            ≡ after_candidate c.problem.now c.deviation (search_plans_of self.old)
             (draft_of self.old.draft)) }
-        ensures search_state { OnOk result (IsSearchState problem.now pins.now.routes self.new) }
+        ensures search_state { let c = context.now in
+            OnOk result (IsSearchState c.problem.now c.pins.now.routes self.new) }
     {
         costs_compare_lexicographically();
         passing_is_local();
-        let cost = self.draft.cost(problem, pins);
+        let cost = self.draft.cost(context.problem, context.pins);
         if cost <= self.best {
-            self.improve(alloc, problem, pins, &cost)?;
-            self.accept(problem, pins, &cost)?;
+            self.improve(alloc, context, &cost)?;
+            self.accept(context, &cost)?;
             self.is_at_incumbent = true;
             return Ok(());
         }
-        if !is_near(deviation, &cost, &self.best) {
+        if !is_near(context.deviation, &cost, &self.best) {
             self.draft.discard();
             return Ok(());
         }
-        self.accept(problem, pins, &cost)
+        self.accept(context, &cost)
     }
 
     /// Makes the candidate, which costs `cost`, the incumbent. If the candidate is known to be the incumbent
@@ -143,13 +133,14 @@ impl SearchState {
     pub fn improve(
         &mut self,
         alloc: Global,
-        problem: &Problem,
-        pins: &Pins,
+        context: &SearchContext,
         cost: &Cost,
     ) -> Result<(), OutOfMemory>
-        requires keeps { KeepsSearchState problem.now pins.now.routes self.old }
-        requires cost { cost.now ≡ cost_of problem.now (draft_of self.old.draft) }
-        ensures { OnOk result (HasNewIncumbent problem.now pins.now.routes self.old self.new) }
+        requires keeps { let c = context.now in
+            KeepsSearchState c.problem.now c.pins.now.routes self.old }
+        requires cost { cost.now ≡ cost_of context.now.problem.now (draft_of self.old.draft) }
+        ensures { let c = context.now in
+            OnOk result (HasNewIncumbent c.problem.now c.pins.now.routes self.old self.new) }
     {
         passing_is_local();
         self.best = *cost;
@@ -169,12 +160,14 @@ impl SearchState {
 
     /// Makes the candidate, which costs `cost`, the working plan. The working plan is then not known to be the
     /// incumbent.
-    pub fn accept(&mut self, problem: &Problem, pins: &Pins, cost: &Cost) -> Result<(), OutOfMemory>
-        requires draft { IsDraftOf problem.now pins.now.routes self.old.draft }
-        requires lists { AreListsOf problem.now pins.now.routes
-            (base_of self.old.draft) self.old.lists }
-        requires cost { cost.now ≡ cost_of problem.now (draft_of self.old.draft) }
-        ensures { OnOk result (HasNewWorkingPlan problem.now pins.now.routes self.old self.new) }
+    pub fn accept(&mut self, context: &SearchContext, cost: &Cost) -> Result<(), OutOfMemory>
+        requires draft { let c = context.now in
+            IsDraftOf c.problem.now c.pins.now.routes self.old.draft }
+        requires lists { let c = context.now in
+            AreListsOf c.problem.now c.pins.now.routes (base_of self.old.draft) self.old.lists }
+        requires cost { cost.now ≡ cost_of context.now.problem.now (draft_of self.old.draft) }
+        ensures { let c = context.now in
+            OnOk result (HasNewWorkingPlan c.problem.now c.pins.now.routes self.old self.new) }
     {
         let is_base = self.draft.is_base();
         self.is_at_incumbent = false;
@@ -185,7 +178,7 @@ impl SearchState {
         if cost.unplanned == 0 && self.lists.unplanned.is_empty() {
             return Ok(());
         }
-        self.lists.fill(problem, pins, &self.draft)
+        self.lists.fill(context.problem, context.pins, &self.draft)
     }
 
     /// Returns copies of both plans. The search can continue.

@@ -74,7 +74,7 @@ impl SpatialIndex {
 }
 
 fn empty_lists(alloc: Global, count: usize) -> Result<Vec<Vec<u32>>, OutOfMemory>
-    ensures { IfOk result (λ nearest_stops. All (λ front. front.items ≡ []) nearest_stops.items) }
+    ensures { IfOk result (λ nearest_stops. All (λ stops. stops.items ≡ []) nearest_stops.items) }
 {
     let mut nearest_stops = Vec::with_capacity(alloc, count)?;
     for number in 0..count {

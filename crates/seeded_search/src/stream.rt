@@ -5,6 +5,7 @@
 //! the nonce's first word. The words come from `next_word`, whose contract says where the generator is
 //! afterwards.
 ghost use Rattle.std.specs.Prelude.{◌≡◌, ◌+◌, ◌*◌, ◌<◌, ◌^◌};
+ghost use Rattle.plan_types.specs.declared.limits.TheConstants.{MAX_STEPS};
 ghost use Rattle.rand_chacha.specs.ChaCha.{ChaCha};
 ghost use Rattle.seeded_search.specs.Words.{key_bytes, step_words};
 ghost use Rattle.seeded_search.specs.Generator.{NextStep, next_step_of, before_step, IsBeforeStep, next_words};
@@ -32,7 +33,7 @@ impl Model for StepWords {
 impl StepWords {
     /// Returns the words of the steps from `step` on.
     pub fn from_step(seed: u64, step: u64) -> Self
-        requires { step < 2 ^ 60 }
+        requires { step < MAX_STEPS }
         ensures { result ≡ record { seed = seed; step = step } }
     {
         StepWords {
@@ -42,7 +43,7 @@ impl StepWords {
 
     /// Returns the words of the next step.
     pub fn next_step(&mut self) -> [u32; 16]
-        requires { self.old.step < 2 ^ 60 }
+        requires { self.old.step < MAX_STEPS }
         ensures words { result ≡ step_words self.old.seed self.old.step }
         ensures after { self.new ≡ record self.old { step = self.old.step + 1 } }
     {
@@ -55,7 +56,7 @@ impl StepWords {
 /// block function's state are the low and the high half of the block's number, 0 and 0. Use this for a single
 /// step; a search takes its words from a `StepWords`.
 pub fn words(seed: u64, step: u64) -> [u32; 16]
-    requires { step < 2 ^ 60 }
+    requires { step < MAX_STEPS }
     ensures { result ≡ step_words seed step }
 {
     StepWords::from_step(seed, step).next_step()
@@ -63,7 +64,7 @@ pub fn words(seed: u64, step: u64) -> [u32; 16]
 
 // Returns the generator of a seed before the words of a step.
 fn generator(seed: u64, step: u64) -> ChaCha20Rng
-    requires { step < 2 ^ 60 }
+    requires { step < MAX_STEPS }
     ensures { result ≡ before_step (record { seed = seed; step = step }) }
 {
     let mut rng = ChaCha20Rng::from_seed(key(seed));

@@ -109,13 +109,13 @@ module _ (Is : PricedInsertion → Type 0) (key : PricedInsertion → ℕ)
           (λ le. let lt = so.2 in order b a so.1 is.0 (subst (λ x. x ≤ℤ a.distance) so.0 le) (omega arith))
 
   -- the insertion with the next key is offered
-  module _ (added : ℕ → Option ℤ) (tells : (a : PricedInsertion) → Is a → added (key a) ≡ Some a.distance) (below : ℤ) (n i j : ℕ)
+  module _ (added : ℕ → Option ℤ) (adds : (a : PricedInsertion) → Is a → added (key a) ≡ Some a.distance) (below : ℤ) (n i j : ℕ)
       (best : Best) (so : SoFar below n best.bound best.found)
       (least : (a : PricedInsertion) → Is a → key a ≡ n → (a.pickup ≡ i) × (j ≤ a.delivery))
       (keyed : (x : ℤ) → key (record { distance = x; pickup = i; delivery = j }) ≡ n)
       (puts : (x : ℤ) → added n ≡ Some x → Is (record { distance = x; pickup = i; delivery = j })) where
     here : (a : PricedInsertion) → Is a → key a ≡ n → added n ≡ Some a.distance
-    here a is at = ap added (sym at) ∙ tells a is
+    here a is at = ap added (sym at) ∙ adds a is
 
     pub offered-more : (next : Best) → next ≡ offered best (added n) i j → SoFar below (n + 1) next.bound next.found
     offered-more next made = subst (λ b. SoFar below (n + 1) b.bound b.found) (sym made) (by (added n) refl)

@@ -37,13 +37,13 @@ module _ (c : Course) (places : List PlaceSlack) (table : AreKnown c places) (b 
   abbrev pub IsEnd : ℕ → Option ℤ → Type 0
   IsEnd l o = EndIs (limits_of c) b l (length_along (stop_on c) (length c.stops + 1)) o
 
-  module _ (m : ℕ) (front : (k : ℕ) → k ≤ m → b k ≡ stop_on c k) (within : m ≤ length c.stops) where
+  module _ (m : ℕ) (prefix : (k : ℕ) → k ≤ m → b k ≡ stop_on c k) (within : m ≤ length c.stops) where
     -- the states at the places before the insertion are the old ones
-    front-at : (d : PlaceSlack) → IsAt b m (get_or places m d).at
-    front-at d = let long = table.long in at-same (stop_on c) b m front (get_or places m d).at (table.known m d (omega arith)).at
+    prefix-at : (d : PlaceSlack) → IsAt b m (get_or places m d).at
+    prefix-at d = let long = table.long in at-same (stop_on c) b m prefix (get_or places m d).at (table.known m d (omega arith)).at
 
-    front-in : In (limits_of c) b m
-    front-in = kept-same (stop_on c) b m front c.kind c.capacity (kept-fewer (limits_of c) (stop_on c) m (length c.stops + 1) (omega arith) table.limits)
+    prefix-in : In (limits_of c) b m
+    prefix-in = kept-same (stop_on c) b m prefix c.kind c.capacity (kept-fewer (limits_of c) (stop_on c) m (length c.stops + 1) (omega arith) table.limits)
 
   -- the route continues with a stop at place j, then with place n of the table and all later places
   rest-is : (j n l : ℕ) (d : PlaceSlack) (at : Progress) (s : Stop) → 1 ≤ j → n ≤ length c.stops + 1 → l ≡ j + 1 + (length c.stops + 1 - n)
@@ -63,31 +63,31 @@ module _ (c : Course) (places : List PlaceSlack) (table : AreKnown c places) (b 
 
   pub single-is : (i : ℕ) (s : Stop) (d : PlaceSlack) → 1 ≤ i → i ≤ length c.stops + 1 → ((k : ℕ) → k ≤ i - 1 → b k ≡ stop_on c k) → b i ≡ s
       → ((k : ℕ) → b (i + 1 + k) ≡ stop_on c (i + k)) → IsEnd (length c.stops + 2) (with_single (limits_of c) places s i d)
-  single-is i s d one most front here following =
+  single-is i s d one most prefix here following =
       rest-is i i (length c.stops + 2) d (get_or places (i - 1) d).at s one most (omega arith) here following
-      (front-at (i - 1) front (omega arith) d) (front-in (i - 1) front (omega arith))
+      (prefix-at (i - 1) prefix (omega arith) d) (prefix-in (i - 1) prefix (omega arith))
 
   -- the trip through a pickup at place i and then n places of the table
   walked-is : (i n : ℕ) (p : Stop) (d : PlaceSlack) → 1 ≤ i → i + n ≤ length c.stops + 1 → ((k : ℕ) → k ≤ i - 1 → b k ≡ stop_on c k) → b i ≡ p
       → ((k : ℕ) → k < n → b (i + 1 + k) ≡ stop_on c (i + k)) → WalkIs (limits_of c) b (i + n) (walked (limits_of c) places p i d n)
   unfolding WalkIs
-  walked-is i zero p d one most front first middle =
+  walked-is i zero p d one most prefix first middle =
       subst (λ k. WalkIs (limits_of c) b k (walked (limits_of c) places p i d 0)) (omega arith)
       (walk-on (limits_of c) b (i - 1) (Some (get_or places (i - 1) d).at) p
-      (front-at (i - 1) front (omega arith) d, front-in (i - 1) front (omega arith)) (sym (ap b (omega arith) ∙ first)))
-  walked-is i (suc n) p d one most front first middle =
+      (prefix-at (i - 1) prefix (omega arith) d, prefix-in (i - 1) prefix (omega arith)) (sym (ap b (omega arith) ∙ first)))
+  walked-is i (suc n) p d one most prefix first middle =
       subst (λ k. WalkIs (limits_of c) b k (walked (limits_of c) places p i d (suc n))) (omega arith)
       (walk-on (limits_of c) b (i + n) (walked (limits_of c) places p i d n) (get_or places (i + n) d).at.stop
-      (walked-is i n p d one (omega arith) front first (λ k h. middle k (omega arith)))
+      (walked-is i n p d one (omega arith) prefix first (λ k h. middle k (omega arith)))
       ((table.known (i + n) d (omega arith)).at.stop ∙ sym (ap b (omega arith) ∙ middle n (omega arith))))
 
   pub pair-is : (i j : ℕ) (p q : Stop) (d : PlaceSlack) → 1 ≤ i → i < j → j ≤ length c.stops + 2 → ((k : ℕ) → k ≤ i - 1 → b k ≡ stop_on c k)
       → b i ≡ p → ((k : ℕ) → i + 1 + k < j → b (i + 1 + k) ≡ stop_on c (i + k)) → b j ≡ q
       → ((k : ℕ) → b (j + 1 + k) ≡ stop_on c (j - 1 + k)) → IsEnd (length c.stops + 3) (with_pair (limits_of c) places p q i j d)
   unfolding walk_to
-  pair-is i j p q d one order most front first middle second following =
+  pair-is i j p q d one order most prefix first middle second following =
       let walk = subst (λ k. WalkIs (limits_of c) b k (walked (limits_of c) places p i d (j - (i + 1)))) (omega arith)
-      (walked-is i (j - (i + 1)) p d one (omega arith) front first (λ k h. middle k (omega arith))) in
+      (walked-is i (j - (i + 1)) p d one (omega arith) prefix first (λ k h. middle k (omega arith))) in
       end-then (limits_of c) b (j - 1) (length c.stops + 3) _ _ (λ at. with_stop (limits_of c) at q (get_or places (j - 1) d)) (omega arith) walk
       (λ at is kept. rest-is j (j - 1) (length c.stops + 3) d at q (omega arith) (omega arith) (omega arith) second following is kept)
 
@@ -138,9 +138,9 @@ pub delivery-found : (p d : Stop) → p.number ≢ d.number → stop_in d.number
 delivery-found p d apart = rw (ne_eqb p.number d.number apart, eq-eqb d.number d.number refl) refl
 
 -- a stop of the request is found in the problem by its number
-pub stands : (p : Instance) (name : ℕ) (r : Request) (s : Stop) → NamedRequestsAreFound → IsInstance p → request_named p name ≡ Some r
+pub stop-is-found : (p : Instance) (name : ℕ) (r : Request) (s : Stop) → NamedRequestsAreFound → IsInstance p → request_named p name ≡ Some r
     → IsStop s → stop_in s.number r ≡ Some s → stop_numbered p s.number ≡ s
-stands p name r s law valid named stop own =
+stop-is-found p name r s law valid named stop own =
     numbered-is p s stop ((law p s.number name r valid named (subst (λ o. IsSome o) (sym own) refl)).stop ∙ own)
 
 -- ---- the result of try_insert
@@ -183,7 +183,7 @@ module _ (p : Instance) (c : Course) (places : List PlaceSlack) (table : AreKnow
       → IsAdded p (course_route c) (inserted (Single s) i j (course_route c)) o
   single-added law name i j s d o named are made =
       let stop = request-valid p name (Single s) valid named in
-      let own : stop_numbered p s.number ≡ s = stands p name (Single s) s law valid named stop.0 (single-found s) in
+      let own : stop_numbered p s.number ≡ s = stop-is-found p name (Single s) s law valid named stop.0 (single-found s) in
       let new = insert (course_route c) (i - 1) s.number in
       let one = are.0 in
       let fits : i - 1 ≤ length (course_route c) = omega arith in
@@ -202,8 +202,8 @@ module _ (p : Instance) (c : Course) (places : List PlaceSlack) (table : AreKnow
       → IsAdded p (course_route c) (inserted (Pair s t) i j (course_route c)) o
   pair-added law name i j s t d o named are made =
       let request = request-valid p name (Pair s t) valid named in
-      let pickup : stop_numbered p s.number ≡ s = stands p name (Pair s t) s law valid named request.0 (pickup-found s t) in
-      let delivery : stop_numbered p t.number ≡ t = stands p name (Pair s t) t law valid named request.1 (delivery-found s t request.2) in
+      let pickup : stop_numbered p s.number ≡ s = stop-is-found p name (Pair s t) s law valid named request.0 (pickup-found s t) in
+      let delivery : stop_numbered p t.number ≡ t = stop-is-found p name (Pair s t) t law valid named request.1 (delivery-found s t request.2) in
       let inner = insert (course_route c) (i - 1) s.number in
       let new = insert (insert (course_route c) (i - 1) s.number) (j - 1) t.number in
       let one = are.0 in

@@ -44,7 +44,7 @@ module _ (a b : ℕ → Stop) (n : ℕ) (same : (k : ℕ) → k ≤ n → b k �
 
 -- ---- the table of a route
 module _ (p : Instance) (c : Course) (places : List PlaceSlack) (table : AreKnown c places) (course : IsCourseIn p c) (route : List ℕ) (n : ℕ)
-    (d : PlaceSlack) (within : n + 1 < length places) (front : IsSharedPrefix places route n) where
+    (d : PlaceSlack) (within : n + 1 < length places) (shared : IsSharedPrefix places route n) where
   on : place p (course_route c) ≡ stop_on c
   on = places-on p (course_route c) c course
 
@@ -57,7 +57,7 @@ module _ (p : Instance) (c : Course) (places : List PlaceSlack) (table : AreKnow
       get_or-map (λ (s : Stop). s.number) c.stops k c.depot c.depot.number (omega arith) in
       let default : get_or (course_route c) k 0 ≡ get_or (course_route c) k c.depot.number =
       get_or_default (course_route c) k 0 c.depot.number (omega (arith, length-map c.stops (λ (s : Stop). s.number))) in
-      sym (front k d h) ∙ (ap (λ s. s.number) (stop ∙ next) ∙ (sym read ∙ sym default))
+      sym (shared k d h) ∙ (ap (λ s. s.number) (stop ∙ next) ∙ (sym read ∙ sym default))
 
   same-place : (k : ℕ) → k ≤ n → place p route k ≡ stop_on c k
   unfolding place
@@ -87,8 +87,8 @@ module _ (p : Instance) (c : Course) (places : List PlaceSlack) (table : AreKnow
           (subst (λ x. IsInLimits c.kind x (stop_on c) m) capacity
           (kept-fewer (record { kind = c.kind; capacity = c.capacity }) (stop_on c) m (length c.stops + 1) h table.limits))
 
-pub knows-fronts : (p : Instance) (c : Course) (places : List PlaceSlack) → AreKnown c places → IsCourseIn p c → KnowsPrefixes p places
-knows-fronts p c places table course = λ route n d within front. has-come p c places table course route n d within front
+pub knows-prefixes : (p : Instance) (c : Course) (places : List PlaceSlack) → AreKnown c places → IsCourseIn p c → KnowsPrefixes p places
+knows-prefixes p c places table course = λ route n d within shared. has-come p c places table course route n d within shared
 
 -- ---- the same numbers mean the same stops
 module _ (p : Instance) (c : Course) (places : List PlaceSlack) (table : AreKnown c places) (course : IsCourseIn p c) (depot : p.depot.number ≡ 0) where

@@ -107,8 +107,8 @@ number-among n (e ∷ es) s is = by (stop_in n e.1) (number-in n e.1 s) (number-
     by None here later h = later h
     by (Some t) here later h = here h
 
-live-number : (p : Instance) (n : ℕ) → IsInstance p → IsKnownStop p n → (stop_numbered p n).number ≡ n
-live-number p n valid live = by (stop_at p n) refl live (eqb n 0) refl
+known-number : (p : Instance) (n : ℕ) → IsInstance p → IsKnownStop p n → (stop_numbered p n).number ≡ n
+known-number p n valid known = by (stop_at p n) refl known (eqb n 0) refl
   where
     by : (o : Option Stop) → stop_at p n ≡ o → IsSome o → (b : Bool) → eqb n 0 ≡ b → (cond b p.depot (unwrap_or o p.depot)).number ≡ n
     by None is some b h = absurd (false≢true some)
@@ -117,10 +117,10 @@ live-number p n valid live = by (stop_at p n) refl live (eqb n 0) refl
 
 numbers-by : (p : Instance) (route : List ℕ) → IsInstance p → AllByRecursion (IsKnownStop p) route
     → map (λ (s : Stop). s.number) (map (stop_numbered p) route) ≡ route
-numbers-by p [] valid live = refl
-numbers-by p (n ∷ route) valid live =
-    ap (λ m. m ∷ map (λ (s : Stop). s.number) (map (stop_numbered p) route)) (live-number p n valid live.0)
-    ∙ ap (λ ns. n ∷ ns) (numbers-by p route valid live.1)
+numbers-by p [] valid known = refl
+numbers-by p (n ∷ route) valid known =
+    ap (λ m. m ∷ map (λ (s : Stop). s.number) (map (stop_numbered p) route)) (known-number p n valid known.0)
+    ∙ ap (λ ns. n ∷ ns) (numbers-by p route valid known.1)
 
 -- the numbers of a route's course are the route
 pub numbers-are : (p : Instance) (route : List ℕ) → IsInstance p → AreDistinctStops p route → course_route (course_of p route) ≡ route

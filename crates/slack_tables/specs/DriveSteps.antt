@@ -2,6 +2,7 @@
 -- definitions restate the steps of `Ride` for the lemmas on routes.
 use Rattle.std.specs.Prelude.{ℕ, zero, suc, ◌+◌, ◌-◌, ◌^◌, ◌≤◌, max, ℤ, unsigned_abs, List, slice_index_or, Option, Some, None, if◌then◌else◌}
 use Rattle.std.specs.Option.{option_and_then}
+use Rattle.plan_types.specs.declared.limits.TheConstants.{MAX_TIME}
 use Rattle.plan_types.specs.Limits.{IsVisit}
 use Rattle.plan_types.specs.declared.requests.Stop.{Stop}
 use Rattle.nint_dist.specs.Distance.{distance}
@@ -44,7 +45,7 @@ with_pair limits places p q i j d = option_and_then (λ at. with_stop limits at 
 -- bounds on the state at the next stop
 pub record IsNear (a b : Progress) : Type 0 where
   pub visit : IsVisit b.stop
-  pub start : b.start ≤ max a.start 100000000 + 3828427
+  pub start : b.start ≤ max a.start MAX_TIME + 3828427
   pub load : unsigned_abs b.load ≤ unsigned_abs a.load + 2 ^ 31
   pub distance : b.distance ≤ a.distance + 2828427
 

@@ -1,5 +1,6 @@
 -- The places of a route after the forward pass.
 use Rattle.std.specs.Prelude.{◌≡◌, ℕ, ◌+◌, ◌*◌, ◌^◌, ◌<◌, ◌≤◌, pos, unsigned_abs, List, length, slice_index_or}
+use Rattle.plan_types.specs.declared.limits.TheConstants.{MAX_TIME}
 use Rattle.plan_types.specs.Limits.{IsVisit}
 use Rattle.plan_types.specs.declared.requests.Stop.{Stop}
 use Rattle.slack_tables.specs.DriveSteps.{IsSmallRow}
@@ -18,7 +19,7 @@ forward_row a = record { at = a; latest_start = 18446744073709551615; max_load =
 -- bounds on the state at place k
 pub record IsWithin (k : ℕ) (a : Progress) : Type 0 where
   pub visit : IsVisit a.stop
-  pub start : a.start ≤ 100000000 + k * 3828427
+  pub start : a.start ≤ MAX_TIME + k * 3828427
   pub load : unsigned_abs a.load ≤ k * 2 ^ 31
   pub distance : a.distance ≤ k * 2828427
 

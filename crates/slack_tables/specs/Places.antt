@@ -1,5 +1,6 @@
 -- The values of a place in a table.
 use Rattle.std.specs.Prelude.{◌≡◌, ℕ, ◌^◌, ◌<◌, ◌≤◌, ◌↔◌, ℤ, ◌≤ℤ◌}
+use Rattle.plan_types.specs.declared.limits.TheConstants.{MAX_TIME}
 use Rattle.plan_types.specs.declared.requests.Stop.{Stop}
 use Rattle.plan_types.specs.declared.requests.Kind.{Kind}
 use Rattle.plan_types.specs.declared.requests.Kind.TheVariants.{LiLim}
@@ -19,5 +20,5 @@ pub record IsAt (stops : ℕ → Stop) (k : ℕ) (a : Progress) : Type 0 where
 pub record IsKnown (kind : Kind) (stops : ℕ → Stop) (last k : ℕ) (e : PlaceSlack) : Type 0 where
   pub at : IsAt stops k e.at
   pub latest_start : kind ≡ LiLim → (t : ℕ) → t ≤ 2 ^ 60 → MeetsLaterWindowsAlong kind stops last k t ↔ (t ≤ e.latest_start)
-  pub limit : kind ≡ LiLim → k < last → e.latest_start ≤ 100000000
+  pub limit : kind ≡ LiLim → k < last → e.latest_start ≤ MAX_TIME
   pub max_load : (c : ℤ) → (e.max_load ≤ℤ c) ↔ ((m : ℕ) → k ≤ m → m ≤ last → load_along stops m ≤ℤ c)

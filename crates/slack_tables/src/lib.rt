@@ -14,7 +14,7 @@
 //!   times and prices.
 //! - `request`, `span`: the distances of a request that do not depend on the route, and bounds that rule out a
 //!   whole scan.
-//! - `front`, `known_legs`: reuse of the table of a similar route.
+//! - `shared_prefix`, `known_legs`: reuse of the table of a similar route.
 //!
 //! Source: the forward time slack of routing with time windows (Savelsbergh), here in whole numbers and with
 //! rounded distances, which break the triangle inequality.
@@ -37,7 +37,6 @@
 #![tactic(auto)]
 
 mod closed;
-mod front;
 mod insertion;
 mod known_legs;
 mod legs;
@@ -45,6 +44,7 @@ mod progress;
 mod request;
 mod ride;
 mod scan;
+mod shared_prefix;
 mod slack;
 mod span;
 mod table;

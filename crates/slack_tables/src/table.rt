@@ -2,7 +2,7 @@
 //!
 //! The depot is at both ends of the list, so no place is a special case: at place 0 the vehicle departs, and
 //! after the last stop it returns. The forward pass fills in starts, loads and distances, beginning after the
-//! prefix that the route shares with a given table (`front`). The backward pass fills in latest starts and
+//! prefix that the route shares with a given table (`shared_prefix`). The backward pass fills in latest starts and
 //! greatest loads (`slack`). Windows are checked only if the kind of the problem has them. So in a table of a
 //! `Vrp` problem only the starts are meaningful times.
 
@@ -20,9 +20,6 @@ ghost use Rattle.slack_tables.specs.TableFields.{limits_of, AreKnown, IsTableOf}
 ghost use Rattle.slack_tables.specs.Legs.{AreLinked};
 ghost use Rattle.slack_tables.specs.TableCursor.{KnowsStops};
 
-use crate::front::{
-    copy_prefix, progress_after_prefix, set_place, shared_prefix_length, stop_after_prefix,
-};
 use crate::insertion::{added_by_pair, added_by_single};
 use crate::known_legs::{cursor_at, find_next_stop, is_next, next_cursor, next_leg};
 use crate::legs::small_row;
@@ -30,6 +27,9 @@ use crate::progress::{Limits, PlaceSlack, Progress};
 use crate::request::RequestDistances;
 use crate::ride::{driven_on, is_within_limits, ride_at, ride_of};
 use crate::scan::{PricedInsertion, best_pair, best_single, rules_out_single};
+use crate::shared_prefix::{
+    copy_prefix, progress_after_prefix, set_place, shared_prefix_length, stop_after_prefix,
+};
 use crate::slack::fill_slack;
 use crate::span::Span;
 use plan_types::{Kind, OutOfMemory, Problem, Request, Stop, requests_are_found_by_stop};
@@ -434,13 +434,13 @@ fn drive_route(
     ensures opened { result ≡ true → AreForwardRows (place problem.now route.now) places.new }
 {
     let limits = limits_of(problem);
-    let front = shared_prefix_length(known, route);
+    let prefix_len = shared_prefix_length(known, route);
     set_place(places, 0, at_depot(&problem.depot));
-    copy_prefix(places, known, front);
-    let mut from = stop_after_prefix(problem, known, front);
-    let mut ride = ride_of(&progress_after_prefix(problem, known, front));
-    let mut cursor = cursor_at(known, front, from);
-    for k in front..route.len() + 1 {
+    copy_prefix(places, known, prefix_len);
+    let mut from = stop_after_prefix(problem, known, prefix_len);
+    let mut ride = ride_of(&progress_after_prefix(problem, known, prefix_len));
+    let mut cursor = cursor_at(known, prefix_len, from);
+    for k in prefix_len..route.len() + 1 {
         let is_next = is_next(known, &cursor, route, k);
         let stop = find_next_stop(problem, known, &cursor, is_next, route, k);
         let way = next_leg(known, &cursor, is_next, from, stop);

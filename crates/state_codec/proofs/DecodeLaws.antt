@@ -29,35 +29,35 @@ use Rattle.state_codec.proofs.ExtraByteLaws.{whole_faults}
 use Rattle.state_codec.proofs.JobLaws.{whole_takes, IsReadJob}
 use Rattle.state_codec.proofs.ProblemLaws.{whole_problem}
 
-module _ (verdict : SubjectsHaveVerdicts) (asked : RoutesHaveAnswers) (pass : PassesDecidesTheVerdict) (feasible : FeasibleAloneDecidesFeasibility) (once : PinsAreDistinctStops) where
-  all_live : (p : Instance) (pin : List ℕ) (pins : List (List ℕ)) → All (AreDistinctStops p) (pin ∷ pins) → AreDistinctStops p pin × All (AreDistinctStops p) pins
-  all_live p pin pins h = (h 0 [] (omega arith), λ k d lt. h (suc k) d (omega (arith, lt)))
+module _ (verdict : SubjectsHaveVerdicts) (answers : RoutesHaveAnswers) (pass : PassesDecidesTheVerdict) (feasible : FeasibleAloneDecidesFeasibility) (once : PinsAreDistinctStops) where
+  split_stops : (p : Instance) (pin : List ℕ) (pins : List (List ℕ)) → All (AreDistinctStops p) (pin ∷ pins) → AreDistinctStops p pin × All (AreDistinctStops p) pins
+  split_stops p pin pins h = (h 0 [] (omega arith), λ k d lt. h (suc k) d (omega (arith, lt)))
 
-  pins_requested : (p : Instance) (pins : List (List ℕ)) → All (AreDistinctStops p) pins → (list_all (feasible_alone p) pins ≡ true) ⊎ ((rule : ℕ) × IsPinRefused p pins rule)
-  pins_requested p [] live = inl refl
-  pins_requested p (pin ∷ pins) live =
-      let parts = all_live p pin pins live in
-      elim (asked p pin parts.0) [
-        | inl ok ↦ (elim (pins_requested p pins parts.1) [
+  pins_decided : (p : Instance) (pins : List (List ℕ)) → All (AreDistinctStops p) pins → (list_all (feasible_alone p) pins ≡ true) ⊎ ((rule : ℕ) × IsPinRefused p pins rule)
+  pins_decided p [] known = inl refl
+  pins_decided p (pin ∷ pins) known =
+      let parts = split_stops p pin pins known in
+      elim (answers p pin parts.0) [
+        | inl ok ↦ (elim (pins_decided p pins parts.1) [
           | inl more ↦ inl (and_from (feasible_alone p pin) (list_all (feasible_alone p) pins) ((feasible p pin).1 ok) more)
           | inr more ↦ inr (more.0, inr (ok, more.1))
         ])
         | inr fault ↦ inr (fault.0, inl fault.1)
       ]
 
-  plan_requested : (p : Instance) (pins routes : List (List ℕ)) → IsInstance p → (passes p pins routes ≡ true) ⊎ ((rule : ℕ) × IsPlanRefused p pins routes rule)
-  plan_requested p pins routes valid = by (verdict.0 p (planned routes pins), verdict.1 p (planned routes pins) valid)
+  plan_decided : (p : Instance) (pins routes : List (List ℕ)) → IsInstance p → (passes p pins routes ≡ true) ⊎ ((rule : ℕ) × IsPlanRefused p pins routes rule)
+  plan_decided p pins routes valid = by (verdict.0 p (planned routes pins), verdict.1 p (planned routes pins) valid)
     where
       by : (v : Verdict) × IsVerdict p (planned routes pins) v → (passes p pins routes ≡ true) ⊎ ((rule : ℕ) × IsPlanRefused p pins routes rule)
       by (Pass cost, is) = inl ((pass p pins routes).1 (subst (λ c. IsVerdict p (planned routes pins) (Pass c)) is.1 is))
       by (Broken rule r i n, is) = inr (rule, (r, i, n, is))
 
-  job_requested : (v : Version) (j : JobValue) → IsInstance j.problem → IsReadJob v j → IsJob j ⊎ ((rule : ℕ) × IsRefused j rule)
-  job_requested v j valid known = elim (plan_requested j.problem j.pins j.plan valid) [
+  job_decided : (v : Version) (j : JobValue) → IsInstance j.problem → IsReadJob v j → IsJob j ⊎ ((rule : ℕ) × IsRefused j rule)
+  job_decided v j valid known = elim (plan_decided j.problem j.pins j.plan valid) [
     | inr r ↦ inr (r.0, inl r.1)
-    | inl plan ↦ (elim (pins_requested j.problem j.pins (once j.problem j.pins j.plan plan)) [
+    | inl plan ↦ (elim (pins_decided j.problem j.pins (once j.problem j.pins j.plan plan)) [
       | inr r ↦ inr (r.0, inr (inl (plan, r.1)))
-      | inl pins ↦ (elim (plan_requested j.problem j.pins j.work valid) [
+      | inl pins ↦ (elim (plan_decided j.problem j.pins j.work valid) [
         | inr r ↦ inr (r.0, inr (inr (plan, pins, r.1)))
         | inl work ↦ inl (record { problem = valid; fleet = known.fleet; pins = pins; plan = plan; work = work; deviation = known.deviation; seed = known.seed; steps = known.steps })
       ])
@@ -86,7 +86,7 @@ module _ (verdict : SubjectsHaveVerdicts) (asked : RoutesHaveAnswers) (pass : Pa
         by_answer (Ok None) e = let k = whole_takes v bytes fits None e in inl (Empty, tt, tt, k.0)
         by_answer (Ok (Some j)) e =
             let k = whole_takes v bytes fits (Some j) e in
-            elim (job_requested v j (whole_problem puts v bytes fits j e) k.1) [
+            elim (job_decided v j (whole_problem puts v bytes fits j e) k.1) [
               | inl is ↦ inl (Loaded j, is, k.1.of, k.0)
               | inr r ↦ inr (PlanRefused r.0, (λ c. absurd cc), (j, e, k.0, k.1.of, r.1))
             ]

@@ -27,7 +27,7 @@ use Rattle.state_codec.specs.DecodeResults.{Decodes, IsDecoded, option_of, IsUnl
 use Rattle.state_codec.proofs.FieldLaws.{IsBytes}
 use Rattle.state_codec.proofs.RoundTripLaws.{whole_again, empty_again}
 use Rattle.state_codec.proofs.JobLaws.{whole_takes}
-use Rattle.state_codec.proofs.ExtraByteLaws.{whole_is_plain, whole_stays, whole_and_more, front_is_cut}
+use Rattle.state_codec.proofs.ExtraByteLaws.{whole_is_plain, whole_stays, whole_and_more, prefix_is_truncated}
 
 pub by_fault : (v : Version) (bytes : List ℕ) (e : CodecFault) → Fails e (whole_state_at v bytes) → IsDecoded v bytes (Err e)
 by_fault v bytes Truncated h = h
@@ -99,7 +99,7 @@ pub extra_byte_is_bad : StopsAreBelowNext → ExtraBytesAreBad
 extra_byte_is_bad law v bytes b more r is h = let w = read_whole law v bytes r is h in whole_and_more v bytes b more w.0 w.1
 
 pub prefixes_are_truncated : StopsAreBelowNext → PrefixesAreTruncated
-prefixes_are_truncated law v front b rest r is h = let w = read_whole law v (front ++ b ∷ rest) r is h in front_is_cut v front b rest w.0 w.1
+prefixes_are_truncated law v prefix b rest r is h = let w = read_whole law v (prefix ++ b ∷ rest) r is h in prefix_is_truncated v prefix b rest w.0 w.1
 
 -- ---- a state that satisfies its invariants is not refused
 

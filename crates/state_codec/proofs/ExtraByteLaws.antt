@@ -89,10 +89,10 @@ module _ (more : List ℕ) where
   kept rule short long p = bind short long _ p (λ x. either (rule x.0) (Ok x) _ (Ok (x.0, x.1 ++ more)) _ (done x) wrong)
 
   -- Reading a field of k bytes, whose value depends only on these bytes
-  front : {X : Type 0} (value : List ℕ → X) (k : ℕ) (bytes : List ℕ) → (k ≤ length bytes → value (bytes ++ more) ≡ value bytes)
+  prefix : {X : Type 0} (value : List ℕ → X) (k : ℕ) (bytes : List ℕ) → (k ≤ length bytes → value (bytes ++ more) ≡ value bytes)
       → Grows more (cond (ltb (length bytes) k) (Err Truncated) (Ok (value bytes, drop k bytes)))
       (cond (ltb (length (bytes ++ more)) k) (Err Truncated) (Ok (value (bytes ++ more), drop k (bytes ++ more))))
-  front {X} value k bytes same = by_test (ltb (length bytes) k) refl
+  prefix {X} value k bytes same = by_test (ltb (length bytes) k) refl
     where
       by_test : (b : Bool) → ltb (length bytes) k ≡ b → Grows more (cond b (Err Truncated) (Ok (value bytes, drop k bytes)))
           (cond (ltb (length (bytes ++ more)) k) (Err Truncated) (Ok (value (bytes ++ more), drop k (bytes ++ more))))
@@ -112,11 +112,11 @@ module _ (more : List ℕ) where
 
   number : (size : ℕ) → Grow (number_at size)
   unfolding number_at
-  number size bytes = front (big_number size) size bytes (big_from-append size bytes more)
+  number size bytes = prefix (big_number size) size bytes (big_from-append size bytes more)
 
   signed : Grow signed_at
   unfolding signed_at
-  signed bytes = front (λ b. cast_signed w32 (big_number 4 b)) 4 bytes (λ long. ap (cast_signed w32) (big_from-append 4 bytes more long))
+  signed bytes = prefix (λ b. cast_signed w32 (big_number 4 b)) 4 bytes (λ long. ap (cast_signed w32) (big_from-append 4 bytes more long))
 
   point : Grow point_at
   unfolding point_at
@@ -263,14 +263,14 @@ whole_and_more v bytes b more o h =
     rw ((state (b ∷ more) v bytes).ok k.0 k.1, longer) refl
 
 -- Reading a proper prefix fails as truncated, if all of the bytes can be read
-pub front_is_cut : (v : Version) (front : List ℕ) (b : ℕ) (rest : List ℕ) (o : Option JobValue) → whole_state_at v (front ++ b ∷ rest) ≡ Ok o → whole_state_at v front ≡ Err Truncated
-front_is_cut v front b rest o h = by_answer (whole_state_at v front) refl
+pub prefix_is_truncated : (v : Version) (prefix : List ℕ) (b : ℕ) (rest : List ℕ) (o : Option JobValue) → whole_state_at v (prefix ++ b ∷ rest) ≡ Ok o → whole_state_at v prefix ≡ Err Truncated
+prefix_is_truncated v prefix b rest o h = by_answer (whole_state_at v prefix) refl
   where
-    by_answer : (r : Result (Option JobValue) CodecFault) → whole_state_at v front ≡ r → whole_state_at v front ≡ Err Truncated
-    by_answer (Ok p) e = let both = sym h ∙ whole_and_more v front b rest p e in absurd cc
-    by_answer (Err f) e = elim (whole_faults v front f e) [
+    by_answer : (r : Result (Option JobValue) CodecFault) → whole_state_at v prefix ≡ r → whole_state_at v prefix ≡ Err Truncated
+    by_answer (Ok p) e = let both = sym h ∙ whole_and_more v prefix b rest p e in absurd cc
+    by_answer (Err f) e = elim (whole_faults v prefix f e) [
       | inl t ↦ e ∙ ap Err t
-      | inr t ↦ (let both = sym h ∙ whole_stays v front (b ∷ rest) (e ∙ ap Err t) in absurd cc)
+      | inr t ↦ (let both = sym h ∙ whole_stays v prefix (b ∷ rest) (e ∙ ap Err t) in absurd cc)
     ]
 
 pub whole_is_plain : (v : Version) (bytes : List ℕ) (rule : ℕ) → whole_state_at v bytes ≡ Err (PlanRefused rule) → ⊥

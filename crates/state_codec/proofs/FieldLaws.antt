@@ -147,9 +147,9 @@ number_takes size is bytes x fits e =
     let long : size ≤ length bytes = ltb-false _ _ g.0 in
     let number-is : big_number size bytes ≡ x.0 = ap (λ (p : ℕ × List ℕ). p.0) g.1 in
     let rest-is : drop size bytes ≡ x.1 = ap (λ (p : ℕ × List ℕ). p.1) g.1 in
-    let front : big_bytes size x.0 ≡ take size bytes = ap (big_bytes size) (sym number-is) ∙ is bytes fits long in (
+    let prefix : big_bytes size x.0 ≡ take size bytes = ap (big_bytes size) (sym number-is) ∙ is bytes fits long in (
       record {
-        parts = sym (ap (λ t. t ++ x.1) front ∙ ap (λ t. take size bytes ++ t) (sym rest-is) ∙ take-append-drop size bytes);
+        parts = sym (ap (λ t. t ++ x.1) prefix ∙ ap (λ t. take size bytes ++ t) (sym rest-is) ∙ take-append-drop size bytes);
         rest_fits = subst IsBytes rest-is (IsBytes-drop size bytes fits);
       },
       subst (λ n. n < 256 ^ size) number-is (big_from-lt 0 size bytes fits),
@@ -176,9 +176,9 @@ signed_takes bytes x fits e =
     let number-is : cast_signed w32 (big_number 4 bytes) ≡ x.0 = ap (λ (p : ℤ × List ℕ). p.0) g.1 in
     let rest-is : drop 4 bytes ≡ x.1 = ap (λ (p : ℤ × List ℕ). p.1) g.1 in
     let same : cast_unsigned w32 x.0 ≡ big_number 4 bytes = ap (cast_unsigned w32) (sym number-is) ∙ of_z-to_z w32 (big_number 4 bytes) (big_from-lt 0 4 bytes fits) in
-    let front : big_bytes 4 (cast_unsigned w32 x.0) ≡ take 4 bytes = ap (big_bytes 4) same ∙ back4 bytes fits long in
+    let prefix : big_bytes 4 (cast_unsigned w32 x.0) ≡ take 4 bytes = ap (big_bytes 4) same ∙ back4 bytes fits long in
     record {
-      parts = sym (ap (λ t. t ++ x.1) front ∙ ap (λ t. take 4 bytes ++ t) (sym rest-is) ∙ take-append-drop 4 bytes);
+      parts = sym (ap (λ t. t ++ x.1) prefix ∙ ap (λ t. take 4 bytes ++ t) (sym rest-is) ∙ take-append-drop 4 bytes);
       rest_fits = subst IsBytes rest-is (IsBytes-drop 4 bytes fits);
     }
 

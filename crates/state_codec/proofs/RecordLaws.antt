@@ -96,16 +96,16 @@ pub record_again : (v : Version) (sector : List ℕ) (sequence index : ℕ) (c :
     → (rest : List ℕ) × (command_at v (drop 12 sector) ≡ Ok (c, rest))
 record_again v sector sequence index c is e =
     let zeros = replicate (512 - length (fields_bytes v sequence index c)) 0 in
-    let front = number_bytes 8 sequence ++ number_bytes 4 index in
-    let long : length front ≡ 12 = omega (arith, length-append (number_bytes 8 sequence) (number_bytes 4 index), length-number_bytes 8 sequence, length-number_bytes 4 index) in
-    let regrouped : record_bytes v sequence index c ≡ front
+    let prefix = number_bytes 8 sequence ++ number_bytes 4 index in
+    let long : length prefix ≡ 12 = omega (arith, length-append (number_bytes 8 sequence) (number_bytes 4 index), length-number_bytes 8 sequence, length-number_bytes 4 index) in
+    let regrouped : record_bytes v sequence index c ≡ prefix
     ++ (command_bytes v c ++ zeros) = ap (λ t. t ++ zeros) (sym (append_assoc (number_bytes 8 sequence) (number_bytes 4 index) (command_bytes v c)))
-    ∙ append_assoc front (command_bytes v c) zeros in
-    (zeros, ap (λ s. command_at v (drop 12 s)) (e ∙ regrouped) ∙ ap (command_at v) (drop_at front (command_bytes v c ++ zeros) 12 long) ∙ command_again v c zeros is)
+    ∙ append_assoc prefix (command_bytes v c) zeros in
+    (zeros, ap (λ s. command_at v (drop 12 s)) (e ∙ regrouped) ∙ ap (command_at v) (drop_at prefix (command_bytes v c ++ zeros) 12 long) ∙ command_again v c zeros is)
 
 -- The sequence and the index are read back
-front_again : (q i : ℕ) (command zeros : List ℕ) → q < 256 ^ 8 → number_at 8 ((number_bytes 8 q ++ (number_bytes 4 i ++ command)) ++ zeros) ≡ Ok (q, number_bytes 4 i ++ (command ++ zeros))
-front_again q i command zeros lt =
+place_again : (q i : ℕ) (command zeros : List ℕ) → q < 256 ^ 8 → number_at 8 ((number_bytes 8 q ++ (number_bytes 4 i ++ command)) ++ zeros) ≡ Ok (q, number_bytes 4 i ++ (command ++ zeros))
+place_again q i command zeros lt =
     let regrouped : (number_bytes 8 q ++ (number_bytes 4 i ++ command)) ++ zeros ≡ number_bytes 8 q
     ++ (number_bytes 4 i ++ (command ++ zeros)) = append_assoc (number_bytes 8 q) (number_bytes 4 i ++ command) zeros
     ∙ ap (λ t. number_bytes 8 q ++ t) (append_assoc (number_bytes 4 i) command zeros) in
@@ -114,10 +114,10 @@ front_again q i command zeros lt =
 read_same : {X : Type 0} (m n : X) (a b : List ℕ) → done {A = X × List ℕ} (m, a) ≡ done {A = X × List ℕ} (n, b) → (m ≡ n) × (a ≡ b)
 read_same {X} m n a b e = let h = ok_is {A = X × List ℕ} (m, a) (n, b) e in (ap (λ (x : X × List ℕ). x.0) h, ap (λ (x : X × List ℕ). x.1) h)
 
-fronts_differ : (p q i k : ℕ) (c d x y : List ℕ) → p < 256 ^ 8 → q < 256 ^ 8 → i < 256 ^ 4 → k < 256 ^ 4
+places_differ : (p q i k : ℕ) (c d x y : List ℕ) → p < 256 ^ 8 → q < 256 ^ 8 → i < 256 ^ 4 → k < 256 ^ 4
     → (number_bytes 8 p ++ (number_bytes 4 i ++ c)) ++ x ≡ (number_bytes 8 q ++ (number_bytes 4 k ++ d)) ++ y → (p ≡ q) × (i ≡ k)
-fronts_differ p q i k c d x y lp lq li lk e =
-    let first = read_same p q (number_bytes 4 i ++ (c ++ x)) (number_bytes 4 k ++ (d ++ y)) (sym (front_again p i c x lp) ∙ ap (number_at 8) e ∙ front_again q k d y lq) in
+places_differ p q i k c d x y lp lq li lk e =
+    let first = read_same p q (number_bytes 4 i ++ (c ++ x)) (number_bytes 4 k ++ (d ++ y)) (sym (place_again p i c x lp) ∙ ap (number_at 8) e ∙ place_again q k d y lq) in
     let second = read_same i k (c ++ x) (d ++ y) (sym (number_again 4 i (c ++ x) li) ∙ ap (number_at 4) first.1 ∙ number_again 4 k (d ++ y) lk) in
     (first.0, second.0)
 
@@ -125,6 +125,6 @@ pub records_differ : RecordEncodingIsInjective
 records_differ v p q i k c d lp lq li lk rc rd e =
     let a = record_again v (record_bytes v p i c) p i c rc refl in
     let b = record_again v (record_bytes v p i c) q k d rd e in
-    let fronts = fronts_differ p q i k (command_bytes v c) (command_bytes v d) (replicate (512 - length (fields_bytes v p i c)) 0)
+    let prefixes = places_differ p q i k (command_bytes v c) (command_bytes v d) (replicate (512 - length (fields_bytes v p i c)) 0)
     (replicate (512 - length (fields_bytes v q k d)) 0) (omega (arith, lp)) (omega (arith, lq)) (omega (arith, li)) (omega (arith, lk)) e in
-    (fronts.0, fronts.1, (read_same c d a.0 b.0 (sym a.1 ∙ b.1)).0)
+    (prefixes.0, prefixes.1, (read_same c d a.0 b.0 (sym a.1 ∙ b.1)).0)

@@ -323,7 +323,7 @@ job_again law v j rest is of =
     let regrouped : job_bytes v j ++ rest ≡ head_text v (head_of j) ++ problem = append_assoc (head_bytes v j) new_after-head rest ∙ ap (λ t. head_bytes v j ++ t) inner in
     let all-vehicles : times (next_vehicle v) j.problem.fleet ([], []) vehicles
     ≡ Ok ((j.pins, j.plan), work) = ap (λ n. times (next_vehicle v) n ([], []) vehicles) (sym s.plan.fleet)
-    ∙ more_vehicles v j.pins j.plan [] [] work s.fronts plan-fit in
+    ∙ more_vehicles v j.pins j.plan [] [] work s.prefixes plan-fit in
     ap (job_at v) regrouped
     ∙ rw (head_again v (head_of j) problem (head_is v j is of))
     (rw (problem_again v j vehicles is.problem below)

@@ -115,7 +115,7 @@ abbrev vehicle_word : Version → List ℕ × List ℕ → List ℕ
 vehicle_word v e = count_bytes v (length e.0) ++ (count_bytes v (length e.1) ++ stops_bytes v e.1)
 
 pub record BeginsRoute (pin route : List ℕ) : Type 0 where
-  pub front : take (length pin) route ≡ pin
+  pub prefix : take (length pin) route ≡ pin
   pub within : length pin ≤ length route
 
 pub vehicle_takes : (v : Version) (bytes : List ℕ) → IsBytes bytes → (y : (List ℕ × List ℕ) × List ℕ) → vehicle_at v bytes ≡ Ok y → Takes bytes (vehicle_word v y.0) y.1
@@ -134,14 +134,14 @@ vehicle_takes v bytes fits y e =
 
 pub vehicle_again : (v : Version) (pin route rest : List ℕ) → BeginsRoute pin route → IsWritable v route → vehicle_at v (vehicle_word v (pin, route) ++ rest) ≡ Ok ((pin, route), rest)
 unfolding vehicle_at
-vehicle_again v pin route rest front fit =
+vehicle_again v pin route rest prefix fit =
     let stops = stops_bytes v route ++ rest in
     let len = count_bytes v (length route) ++ stops in
     let regrouped : vehicle_word v (pin, route) ++ rest ≡ count_bytes v (length pin) ++ len = simp append_assoc in
     ap (vehicle_at v) regrouped
-    ∙ rw (number_again (width v) (length pin) len (omega (arith, front.within, fit.short)))
-    (rw (only_again (nat_le (length pin)) (number_at (width v) len) (length route, stops) (number_again (width v) (length route) stops fit.short) (le-leb (length pin) (length route) front.within))
-    (rw (stops_again v route rest fit.stops) (ap (λ (p : List ℕ). Ok ((p, route), rest)) front.front)))
+    ∙ rw (number_again (width v) (length pin) len (omega (arith, prefix.within, fit.short)))
+    (rw (only_again (nat_le (length pin)) (number_at (width v) len) (length route, stops) (number_again (width v) (length route) stops fit.short) (le-leb (length pin) (length route) prefix.within))
+    (rw (stops_again v route rest fit.stops) (ap (λ (p : List ℕ). Ok ((p, route), rest)) prefix.prefix)))
 
 abbrev pairs_bytes : Version → List (List ℕ) × List (List ℕ) → List ℕ
 pairs_bytes v e = vehicles_bytes v e.0 e.1
@@ -178,24 +178,24 @@ vehicles_take v n bytes fits y e =
     (subst (λ w. Takes bytes w y.1) (sym t.whole) t.taken, omega (arith, t.count), omega (arith, t.kept, t.count))
 
 -- Each route begins with its pin
-abbrev pub AreFronts : List (List ℕ) → List (List ℕ) → Type 0
-AreFronts [] [] = Unit {0}
-AreFronts [] (route ∷ routes) = ⊥
-AreFronts (pin ∷ pins) [] = ⊥
-AreFronts (pin ∷ pins) (route ∷ routes) = BeginsRoute pin route × AreFronts pins routes
+abbrev pub ArePrefixes : List (List ℕ) → List (List ℕ) → Type 0
+ArePrefixes [] [] = Unit {0}
+ArePrefixes [] (route ∷ routes) = ⊥
+ArePrefixes (pin ∷ pins) [] = ⊥
+ArePrefixes (pin ∷ pins) (route ∷ routes) = BeginsRoute pin route × ArePrefixes pins routes
 
-pub more_vehicles : (v : Version) (pins routes before-pins before : List (List ℕ)) (rest : List ℕ) → AreFronts pins routes
+pub more_vehicles : (v : Version) (pins routes before-pins before : List (List ℕ)) (rest : List ℕ) → ArePrefixes pins routes
     → AllByRecursion (IsWritable v) routes → times (next_vehicle v) (length routes) (before-pins, before) (vehicles_bytes v pins routes ++ rest)
     ≡ Ok ((before-pins ++ pins, before ++ routes), rest)
 unfolding times
-more_vehicles v [] [] before-pins before rest fronts fit = rw (append-nil before-pins, append-nil before) refl
-more_vehicles v [] (route ∷ routes) before-pins before rest fronts fit = absurd fronts
-more_vehicles v (pin ∷ pins) [] before-pins before rest fronts fit = absurd fronts
-more_vehicles v (pin ∷ pins) (route ∷ routes) before-pins before rest fronts fit =
+more_vehicles v [] [] before-pins before rest prefixes fit = rw (append-nil before-pins, append-nil before) refl
+more_vehicles v [] (route ∷ routes) before-pins before rest prefixes fit = absurd prefixes
+more_vehicles v (pin ∷ pins) [] before-pins before rest prefixes fit = absurd prefixes
+more_vehicles v (pin ∷ pins) (route ∷ routes) before-pins before rest prefixes fit =
     let regrouped : vehicles_bytes v (pin ∷ pins) (route ∷ routes) ++ rest ≡ vehicle_word v (pin, route)
     ++ (vehicles_bytes v pins routes ++ rest) = append_assoc (vehicle_word v (pin, route)) (vehicles_bytes v pins routes) rest in
-    let others = more_vehicles v pins routes (before-pins ++ pin ∷ []) (before ++ route ∷ []) rest fronts.1 fit.1 in
+    let others = more_vehicles v pins routes (before-pins ++ pin ∷ []) (before ++ route ∷ []) rest prefixes.1 fit.1 in
     ap (times (next_vehicle v) (suc (length routes)) (before-pins, before)) regrouped
-    ∙ rw (vehicle_again v pin route (vehicles_bytes v pins routes ++ rest) fronts.0 fit.0)
+    ∙ rw (vehicle_again v pin route (vehicles_bytes v pins routes ++ rest) prefixes.0 fit.0)
     (others ∙ ap (λ (e : List (List ℕ)). Ok ((e, (before ++ route ∷ []) ++ routes), rest)) (append_assoc before-pins (pin ∷ []) pins)
     ∙ ap (λ (e : List (List ℕ)). Ok ((before-pins ++ pin ∷ pins, e), rest)) (append_assoc before (route ∷ []) routes))

@@ -9,9 +9,9 @@ use Rattle.state_codec.specs.Bytes.{padded}
 -- Zeros follow the written part
 zeros_left : (bytes : List ℕ) (used k : ℕ) → used + k ≤ 512 → length bytes ≡ 512 → bytes ≡ padded (take used bytes) → drop (used + k) bytes ≡ replicate (512 - (used + k)) 0
 zeros_left bytes used k short len is =
-    let front : length (take used bytes) ≡ used = omega (arith, length-take used bytes) in
-    let following : drop used bytes ≡ replicate (512 - used) 0 = ap (drop used) is ∙ ap (λ n. drop used (take used bytes ++ replicate (512 - n) 0)) front
-    ∙ drop_at (take used bytes) (replicate (512 - used) 0) used front in
+    let prefix : length (take used bytes) ≡ used = omega (arith, length-take used bytes) in
+    let following : drop used bytes ≡ replicate (512 - used) 0 = ap (drop used) is ∙ ap (λ n. drop used (take used bytes ++ replicate (512 - n) 0)) prefix
+    ∙ drop_at (take used bytes) (replicate (512 - used) 0) used prefix in
     sym (drop-drop k used bytes) ∙ ap (drop k) following ∙ drop-replicate k (512 - used) 0 ∙ ap (λ n. replicate n 0) (omega arith)
 
 -- The new text follows the written part, and the rest is unchanged
@@ -26,6 +26,6 @@ module _ (bytes text : List ℕ) (used k : ℕ) (whole : k ≡ length text) (sho
   is_padded =
       let n = used + length text in
       let out = put_mid used k bytes text in
-      let front : length (take used bytes ++ text) ≡ n = omega (arith, length-append (take used bytes) text, length-take used bytes) in
-      let long : length (take n out) ≡ n = ap length written_is ∙ front in
+      let prefix : length (take used bytes ++ text) ≡ n = omega (arith, length-append (take used bytes) text, length-take used bytes) in
+      let long : length (take n out) ≡ n = ap length written_is ∙ prefix in
       sym (take-append-drop n out) ∙ ap (λ r. take n out ++ r) (rest_is ∙ ap (λ m. replicate (512 - m) 0) (sym long))

@@ -63,7 +63,7 @@ IsUnlessOutOfMemory state (Err e) = e ≡ OutOfMemory
 
 -- The fault reports a broken rule, or memory ran out
 abbrev pub ReportsRule : (ℕ → Type 0) → CodecFault → Type 0
-ReportsRule IsTold Truncated = ⊥
-ReportsRule IsTold BadField = ⊥
-ReportsRule IsTold (PlanRefused rule) = IsTold rule
-ReportsRule IsTold OutOfMemory = Unit {0}
+ReportsRule IsReported Truncated = ⊥
+ReportsRule IsReported BadField = ⊥
+ReportsRule IsReported (PlanRefused rule) = IsReported rule
+ReportsRule IsReported OutOfMemory = Unit {0}

@@ -3,6 +3,7 @@
 use Rattle.std.specs.Prelude.{◌≡◌, ℕ, ℤ, pos, Bool, ◌&&◌, nat_lt, nat_le, int_le, List, [], ◌∷◌, length, drop, Result, Ok, Err, if◌then◌else◌}
 use Rattle.std.specs.Int.{w32, cast_signed}
 use Rattle.byteorder.specs.Endian.{big_number}
+use Rattle.plan_types.specs.declared.limits.TheConstants.{MAX_DEMAND, MAX_SERVICE, MAX_TIME}
 use Rattle.command_types.specs.AddedRequests.{is_coordinate}
 use Rattle.state_codec.specs.declared.fault.CodecFault.{CodecFault}
 use Rattle.state_codec.specs.declared.fault.CodecFault.TheVariants.{Truncated, BadField, PlanRefused, OutOfMemory}
@@ -38,13 +39,13 @@ abbrev pub int_eq : ℤ → ℤ → Bool
 int_eq x y = int_le x y && int_le y x
 
 abbrev pub is_demand : ℤ → Bool
-is_demand q = int_le (pos 0) q && int_le q (pos 1000000)
+is_demand q = int_le (pos 0) q && int_le q MAX_DEMAND
 
 abbrev pub is_time : ℕ → Bool
-is_time t = nat_le t 100000000
+is_time t = nat_le t MAX_TIME
 
 abbrev pub is_service : ℕ → Bool
-is_service t = nat_le t 1000000
+is_service t = nat_le t MAX_SERVICE
 
 -- x and y
 unfoldable pub point_at : List ℕ → Field (ℤ × ℤ)

@@ -55,4 +55,4 @@ ExtraBytesAreBad = (v : Version) (bytes : List ℕ) (b : ℕ) (more : List ℕ) 
 
 -- Law: a proper prefix of bytes that can be read to their end is truncated
 abbrev pub PrefixesAreTruncated : Type 0
-PrefixesAreTruncated = (v : Version) (front : List ℕ) (b : ℕ) (rest : List ℕ) (r : Result State CodecFault) → IsWholeResult r → Decodes v (front ++ b ∷ rest) r → Decodes v front (Err Truncated)
+PrefixesAreTruncated = (v : Version) (prefix : List ℕ) (b : ℕ) (rest : List ℕ) (r : Result State CodecFault) → IsWholeResult r → Decodes v (prefix ++ b ∷ rest) r → Decodes v prefix (Err Truncated)

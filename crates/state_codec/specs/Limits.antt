@@ -1,20 +1,22 @@
 -- The values that each version can represent
 use Rattle.std.specs.Prelude.{◌≡◌, ℕ, ◌<◌, ◌≤◌, ◌^◌, ◌+◌, ◌&&◌, true}
-use Rattle.plan_types.specs.declared.limits.TheConstants.{MAX_DEVIATION}
+use Rattle.plan_types.specs.declared.limits.TheConstants.{MAX_DEVIATION, MAX_STOP_NUMBER}
 use Rattle.command_types.specs.Job.{JobValue}
 use Rattle.command_types.specs.AddedRequests.{is_spot, is_demand}
+use Rattle.command_types.specs.declared.limits.TheConstants.{MAX_SEARCH_STEPS}
 use Rattle.command_types.specs.declared.states.State.{State}
 use Rattle.command_types.specs.declared.states.State.TheVariants.{Empty, Loaded}
 use Rattle.command_types.specs.declared.commands.Command.{Command}
 use Rattle.command_types.specs.declared.commands.Command.TheVariants.{Add, Add1, Withdraw, Pin, Unpin, Build, Search, Deviation}
+use Rattle.state_codec.specs.declared.version.TheConstants.{MAX_STOP_NUMBER_V1}
 use Rattle.state_codec.specs.declared.version.Version.{Version}
 use Rattle.state_codec.specs.declared.version.Version.TheVariants.{One, Two}
 use Rattle.state_codec.specs.Bytes.{width}
 
 -- The greatest stop number and the largest fleet
 abbrev pub most : Version → ℕ
-most One = 4000
-most Two = 40000
+most One = MAX_STOP_NUMBER_V1
+most Two = MAX_STOP_NUMBER
 
 -- The states that a version can represent. Version 1 has lower limits; its states have deviation 0, and their
 -- working plan is the plan.
@@ -50,6 +52,6 @@ IsRecorded v (Withdraw name) = HasRoom v name
 IsRecorded v (Pin vehicle k) = HasRoom v vehicle × HasRoom v k
 IsRecorded v (Unpin vehicle) = HasRoom v vehicle
 IsRecorded v Build = Unit {0}
-IsRecorded v (Search count) = (1 ≤ count) × (count ≤ 256)
+IsRecorded v (Search count) = (1 ≤ count) × (count ≤ MAX_SEARCH_STEPS)
 IsRecorded v (Deviation deviation) = IsDeviationOf v deviation
 IsRecorded v _ = ⊥

@@ -5,7 +5,6 @@ use Rattle.std.specs.Prelude.{
   zero,
   suc,
   ◌+◌,
-  ◌^◌,
   ℤ,
   pos,
   length,
@@ -39,7 +38,7 @@ use Rattle.plan_types.specs.declared.requests.Request.{Request}
 use Rattle.plan_types.specs.declared.requests.Request.TheVariants.{Single, Pair}
 use Rattle.plan_types.specs.declared.requests.Kind.{Kind}
 use Rattle.plan_types.specs.declared.requests.Kind.TheVariants.{LiLim, Vrp}
-use Rattle.plan_types.specs.declared.limits.TheConstants.{MAX_DEVIATION}
+use Rattle.plan_types.specs.declared.limits.TheConstants.{MAX_CAPACITY, MAX_DEVIATION, MAX_STEPS}
 use Rattle.command_types.specs.Job.{JobValue}
 use Rattle.state_codec.specs.declared.version.Version.{Version}
 use Rattle.state_codec.specs.declared.version.Version.TheVariants.{One, Two}
@@ -167,10 +166,10 @@ abbrev pub kind_at : List ℕ → Field Kind
 kind_at bytes = byte_at bytes >>= λ b. if b.0 == 1 then Ok (LiLim, b.1) else if b.0 == 2 then Ok (Vrp, b.1) else Err BadField
 
 abbrev pub is_steps : ℕ → Bool
-is_steps n = nat_le n (2 ^ 60)
+is_steps n = nat_le n MAX_STEPS
 
 abbrev pub is_capacity : ℕ → Bool
-is_capacity n = nat_le n 1000000
+is_capacity n = nat_le n MAX_CAPACITY
 
 abbrev pub is_fleet : Version → ℕ → Bool
 is_fleet v n = nat_le 1 n && nat_le n (most v)

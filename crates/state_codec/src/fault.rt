@@ -5,19 +5,16 @@
 //! is `Truncated`, and a `BadField` stays one whatever follows.
 
 use std::alloc::AllocError;
-use thiserror::Error;
 
 /// A reason why bytes are not a state.
-#[derive(Clone, Copy, Debug, PartialEq, Eq, Error)]
+#[derive(Clone, Copy, Debug, PartialEq, Eq)]
 pub enum CodecFault {
-    #[error("the bytes end where a field is due")]
+    /// The bytes end before or inside a field that is due.
     Truncated,
-    #[error("a field breaks its rule")]
+    /// A field breaks its rule.
     BadField,
     /// A plan or a pin breaks the auditor's rule with this number.
-    #[error("a plan or a pin breaks rule {0}")]
     PlanRefused(u32),
-    #[error("out of memory")]
     OutOfMemory,
 }
 

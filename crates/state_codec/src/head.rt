@@ -7,9 +7,8 @@ ghost use Rattle.state_codec.specs.Reading.{kind_at, is_steps, is_capacity, is_f
 
 use crate::fault::CodecFault;
 use crate::fields::{Field, number_at, only, point_at, u8_at, u32_at, u64_at, window_at};
-use crate::version::Version;
-use command_types::MAX_STEPS;
-use plan_types::limits::{MAX_CAPACITY, MAX_DEVIATION};
+use crate::version::{MAX_STOP_NUMBER_V1, Version};
+use plan_types::limits::{MAX_CAPACITY, MAX_DEVIATION, MAX_STEPS, MAX_STOP_NUMBER};
 use plan_types::{Kind, Stop};
 
 #[derive(Clone, Copy)]
@@ -29,8 +28,8 @@ fn most(version: Version) -> u32
     ensures { result ≡ most version }
 {
     match version {
-        Version::One => 4_000,
-        Version::Two => 40_000,
+        Version::One => MAX_STOP_NUMBER_V1,
+        Version::Two => MAX_STOP_NUMBER,
     }
 }
 

@@ -1,9 +1,10 @@
 //! The requests of a state.
-ghost use Rattle.std.specs.Prelude.{◌≡◌, ◌≤◌, [], nat_lt, OnOk, IfOk, IfErr};
+ghost use Rattle.std.specs.Prelude.{◌≡◌, ◌≤◌, ◌+◌, [], nat_lt, OnOk, IfOk, IfErr};
 ghost use Rattle.plan_types.specs.Instance.{with_request, IsTaken};
 ghost use Rattle.plan_types.specs.Request.{IsRequest};
 ghost use Rattle.state_codec.specs.FilledProblem.{IsFilledBelow};
 ghost use Rattle.plan_types.specs.Limits.{IsDemand};
+ghost use Rattle.plan_types.specs.declared.limits.TheConstants.{MAX_STOP_NUMBER};
 ghost use Rattle.std.specs.List.{list_all};
 ghost use Rattle.state_codec.specs.Fields.{Reads, Gives, only, number_at, signed_at, is_service};
 ghost use Rattle.state_codec.specs.Reading.{is_free, is_name, is_delivery, is_expected_demand, visit_at, first_at, delivery_at, request_at, times, next_request};
@@ -164,7 +165,7 @@ pub(crate) fn requests_at<'a>(
     bytes: &'a [u8],
 ) -> Field<'a, Problem>
     requires empty { problem.requests ≡ [] }
-    requires next { next ≤ 40001 }
+    requires next { next ≤ MAX_STOP_NUMBER + 1 }
     ensures read { Gives (λ x. (x.0.requests, x.1.now)) result
         (times (next_request version next) count [] bytes.now) }
     ensures problem { IfOk result (λ x. IsFilledBelow problem next x.0) }

@@ -72,7 +72,7 @@ pub fn decode_state(alloc: Global, bytes: &[u8]) -> Result<State, CodecFault>
     ensures only { (state : State) → IsState state → IsStateOf Two state
         → bytes.now ≡ state_bytes Two state → IsUnlessOutOfMemory state result }
 {
-    decoded(alloc, Version::Two, bytes)
+    decode_version(alloc, Version::Two, bytes)
 }
 
 /// Decodes a state of version 1, which has shorter numbers and lower limits. The state has deviation 0, and its
@@ -86,10 +86,10 @@ pub fn decode_state_v1(alloc: Global, bytes: &[u8]) -> Result<State, CodecFault>
     ensures only { (state : State) → IsState state → IsStateOf One state
         → bytes.now ≡ state_bytes One state → IsUnlessOutOfMemory state result }
 {
-    decoded(alloc, Version::One, bytes)
+    decode_version(alloc, Version::One, bytes)
 }
 
-fn decoded(alloc: Global, version: Version, bytes: &[u8]) -> Result<State, CodecFault>
+fn decode_version(alloc: Global, version: Version, bytes: &[u8]) -> Result<State, CodecFault>
     ensures decodes { Decodes version bytes.now result }
     ensures only { (state : State) → IsState state → IsStateOf version state
         → bytes.now ≡ state_bytes version state → IsUnlessOutOfMemory state result }

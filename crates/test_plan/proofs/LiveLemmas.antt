@@ -7,7 +7,7 @@ use Rattle.std.proofs.lemmas.List.Elements.{All-from_recursion}
 use Rattle.plan_types.specs.Instance.{Instance, stop_at}
 use Rattle.route_sched.specs.Route.{AreDistinctStops, IsKnownStop}
 
--- each of the numbers belongs to a stop, and none after it is the same
+-- each of the numbers belongs to a stop, and does not occur again after itself
 abbrev pub live_once : Instance → List ℕ → Bool
 live_once p [] = true
 live_once p (n ∷ ns) = is_some (stop_at p n) && (not (list_any (nat_eq n) ns) && live_once p ns)
@@ -38,7 +38,7 @@ holds p (n ∷ ns) is =
 pub is_live_once : (p : Instance) (ns : List ℕ) → live_once p ns ≡ true → AreDistinctStops p ns
 is_live_once p ns is = let found = holds p ns is in record { live = All-from_recursion (IsKnownStop p) ns found.live; distinct = found.distinct }
 
--- if no numbers are left, the test passes
+-- an empty list of numbers passes the test
 pub none_left : (p : Instance) (ns : List ℕ) → length ns < 1 → live_once p ns ≡ true
 none_left p [] h = refl
 none_left p (n ∷ ns) h = absurd (omega arith)

@@ -8,12 +8,12 @@ use std::process::Abort;
 use std::test::Fail;
 
 /// The kind of a problem, the column with its best-known cost, the vehicles and the distance of a plan, and the
-/// text of the comparison.
+/// text of their comparison.
 type Comparison = (Kind, &'static str, u64, u64, &'static str);
 
-/// 10 of 787 are 1.2706 percent, 9 of 820 are 1.0976, 6 of 829 are 0.7238 and 1 of 450 is 0.2222. 1 of 20,000
-/// is half a hundredth of a percent, and 1 of 20,001 is less. If the best-known distance ends in zeros, it may
-/// be rounded: 828,935 rounds up to 828,940, and 828,934 does not.
+/// Percentages by hand: 10 of 787 are 1.2706, 9 of 820 are 1.0976, 6 of 829 are 0.7238, and 1 of 450 is 0.2222. 1
+/// of 20,000 is half a hundredth of a percent, and 1 of 20,001 is less. If the best-known distance ends in zeros,
+/// it may be rounded: 828,935 rounds up to 828,940, and 828,934 does not.
 const COMPARISONS: [Comparison; 24] = [
     (Kind::LiLim, "10 787", 10, 797, " gap 1.27"),
     (Kind::LiLim, "10 829", 10, 829, " gap 0.00"),
@@ -81,6 +81,7 @@ fn compares_with_the_best_known_cost(rt: HostRuntime) -> Result<(), Fail> {
     check_comparisons(&rt, &COMPARISONS)
 }
 
+/// Columns that hold no best-known cost for a problem of their kind.
 const REFUSED: [(Kind, &str); 16] = [
     (Kind::LiLim, ""),
     (Kind::LiLim, "0"),

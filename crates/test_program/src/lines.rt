@@ -45,8 +45,7 @@ fn deviation_of(line: &[u8]) -> Option<u32> {
     deviation
 }
 
-// A deviation that is too large for the state is refused when the command is executed, not when its line is
-// parsed.
+// A deviation above the limit is refused when the command is executed, not when its line is parsed.
 #[test]
 fn reads_a_deviation_that_is_too_far(rt: HostRuntime) {
     assert!(rt; deviation_of(b"deviation 1000000001") == Some(1_000_000_001));

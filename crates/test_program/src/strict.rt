@@ -33,7 +33,7 @@ const WRITE_STEPS: [WriteStep; 14] = [
     (b"fault device", REFUSED),
 ];
 
-// Returns whether the writer accepts the text of `put` and then reports its failure, or none.
+// Returns whether the writer accepts the text of `put` and then reports the failure of `put`, or none.
 fn reports(
     writer: &mut StrictWriter<Vec<u8>>,
     session: &Session<MemDevice>,
@@ -82,7 +82,7 @@ pub(crate) fn opened(alloc: Global, device: MemDevice) -> Option<Session<MemDevi
     Some(Session::open(alloc, device).ok()?.session)
 }
 
-/// The result of serving an input.
+/// The result of serving an input strictly.
 #[derive(Drop)]
 struct ServeResult {
     text: Vec<u8>,
@@ -105,7 +105,7 @@ fn serve_strictly(alloc: Global, session: &mut Session<MemDevice>, input: &[u8])
 const ONE_PAIR: &[u8] =
     b"load lilim 0 66\n1 10 1\n0 0 0 0 0 100 0 0 0\n1 1 1 1 0 50 0 0 2\n2 1 1 -1 0 50 0 1 0\nbuild\nnext\n";
 
-// Returns the result of serving `ONE_PAIR` over a store whose device fails at the first call after the opening.
+// Returns the result of serving `ONE_PAIR` over a store whose device fails at its first call after the opening.
 fn serve_on_faulty_device(alloc: Global) -> Result<ServeResult, Fail> {
     let mut device = new_device(alloc)?;
     for calls in 0..64 {

@@ -9,10 +9,10 @@ use std::io;
 use std::io::Read;
 use std::test::Fail;
 
-/// The result of each call, up to the end and after it.
+/// The bytes that each call of a reader returns, up to the end of its input and after it.
 type Calls = [&'static [u8]; 4];
 
-/// A reader whose calls return these bytes, and then nothing.
+/// A reader whose calls return these bytes, and then none.
 #[derive(Drop)]
 struct Terminal {
     calls: Calls,
@@ -38,7 +38,7 @@ const WITHIN_A_LINE: Calls = [b"show\nne", b"xt", b"", b"\nnext\n"];
 /// The end of the input is after the line that announces a text, before the first byte of the text.
 const BEFORE_A_TEXT: Calls = [b"show\n", b"load lilim 0 5", b"", b"hello"];
 
-/// The answers, and how many calls of the reader were made.
+/// The answers to an input, and the number of calls that its reader got.
 #[derive(Drop)]
 struct ServeResult {
     text: Vec<u8>,
@@ -59,7 +59,7 @@ fn serve(alloc: Global, calls: Calls) -> Result<ServeResult, Fail> {
     })
 }
 
-// Returns whether exactly `wanted` is answered, and only the calls up to the end are made.
+// Returns whether exactly `wanted` is answered, and the reader gets only the three calls up to the end.
 fn is_served(alloc: Global, calls: Calls, wanted: &[u8]) -> Result<bool, Fail> {
     let served = serve(alloc, calls)?;
     Ok(served.text.as_slice() == wanted && served.fault.is_none() && served.made == 3)
@@ -75,7 +75,7 @@ fn reads_nothing_after_the_end(rt: HostRuntime) -> Result<(), Fail> {
     Ok(())
 }
 
-// Returns how many calls the reader gets for one read with an empty buffer and then `reads` more reads.
+// Returns how many calls the reader gets for one read into an empty block and then `reads` more reads.
 fn read_calls(calls: Calls, reads: u32) -> Result<usize, IoFault> {
     let mut reader = FailureTracking::new(Terminal { calls, made: 0 });
     let mut block = [0; 8];

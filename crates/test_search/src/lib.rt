@@ -6,7 +6,7 @@
 //! refusals that no command of the program meets, and moves and commands at the largest size.
 //! `tests/program.py` checks states after commands, and the other refusals, with the built program.
 //!
-//! Proved: only that no step fails.
+//! Proved: only that nothing panics.
 #![tactic(auto)]
 
 #[cfg(test)]

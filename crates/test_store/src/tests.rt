@@ -2,7 +2,7 @@
 //! - `builders`: sectors, states as bytes and stores, for all other modules
 //! - `devices`, `files`: a device in memory, and one over a file
 //! - `codecs`: states and records as bytes
-//! - `checkpoints`: the contents of a device
+//! - `checkpoints`: stores on a device
 //! - `recoveries`: sessions, crashes and recovery
 //! - `rounds`: a store that crashes and is opened again and again
 //! - `restarts`: rounds with kills, and with openings that fail

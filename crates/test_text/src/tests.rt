@@ -1,6 +1,5 @@
 //! The test modules, in reading order: `builders` (shared by the examples), `lines`, `instances`, `solomon`,
-//! `solutions`,
-//! `explanations`, `buffers`, `timetables`, `pictures`, `writing`.
+//! `scales`, `solutions`, `explanations`, `buffers`, `timetables`, `pictures`, `writing`.
 
 mod buffers;
 mod builders;
@@ -8,6 +7,7 @@ mod explanations;
 mod instances;
 mod lines;
 mod pictures;
+mod scales;
 mod solomon;
 mod solutions;
 mod timetables;

@@ -1,45 +1,40 @@
 //! SWAP* (Vidal 2022): two customers of different routes change routes, each to its best place there.
-use crate::cells::{item, put};
+use crate::cells::Table;
 use crate::network::Network;
 use crate::trips::Trips;
 use crate::units::Price;
 use plan_types::OutOfMemory;
 use std::alloc::Global;
 
-// An insertion after a customer, or after the depot if that is 0.
+// The price of inserting a customer after another one, or after the depot if that is 0.
 #[derive(Clone, Copy, Default)]
 struct Insertion {
     price: Price,
     after: u32,
 }
 
-// The three cheapest insertions of a customer into a route, and after how many moves they were found.
+// The three cheapest insertions of a customer into a route, and the number of moves when they were found.
 #[derive(Clone, Copy, Default)]
 struct ThreeBest {
     found: u32,
-    one: Insertion,
-    two: Insertion,
-    three: Insertion,
+    insertions: [Insertion; 3],
 }
 
 impl ThreeBest {
-    fn offer(&mut self, price: Price, after: u32) {
-        if price >= self.three.price {
-            return;
-        }
-        self.three = Insertion { price, after };
-        if price < self.two.price {
-            self.three = self.two;
-            self.two = Insertion { price, after };
-        }
-        if price < self.one.price {
-            self.two = self.one;
-            self.one = Insertion { price, after };
+    // Enters an insertion, if it is cheaper than one of the three.
+    fn offer(&mut self, new: Insertion) {
+        let [one, two, three] = self.insertions;
+        if new.price < one.price {
+            self.insertions = [new, one, two];
+        } else if new.price < two.price {
+            self.insertions = [one, new, two];
+        } else if new.price < three.price {
+            self.insertions = [one, two, new];
         }
     }
 }
 
-// An exchange of U and V, and after which customers they go. Without a V only U moves.
+// An exchange of U and V, and the customers after which they are inserted. Without a V, 0, only U moves.
 #[derive(Clone, Copy, Default)]
 struct Exchange {
     price: Price,
@@ -63,33 +58,21 @@ impl Exchange {
 #[derive(Drop)]
 pub(crate) struct SwapStar {
     // By route, then by customer.
-    insertions: Vec<ThreeBest>,
-    width: u32,
+    known: Table<ThreeBest>,
+    trips: u32,
 }
 
 impl SwapStar {
     /// Returns a table without insertions.
     pub(crate) fn new(alloc: Global, network: &Network) -> Result<SwapStar, OutOfMemory> {
-        let width = network.size.saturating_add(1);
-        let cells = u64::from(network.vehicles) * u64::from(width);
-        let cells = usize::try_from(cells).unwrap_or(0);
-        let insertions = vec![in alloc; ThreeBest::default(); cells]?;
-        Ok(SwapStar { insertions, width })
+        let trips = network.vehicles;
+        let known = Table::new(alloc, trips, network.size.saturating_add(1))?;
+        Ok(SwapStar { known, trips })
     }
 
     /// Forgets all insertions.
     pub(crate) fn clear(&mut self) {
-        for known in self.insertions.iter_mut() {
-            known.found = 0;
-        }
-    }
-
-    fn cell(&self, trip: u32, customer: u32) -> u32 {
-        trip.wrapping_mul(self.width).wrapping_add(customer)
-    }
-
-    fn known(&self, trip: u32, customer: u32) -> ThreeBest {
-        item(&self.insertions, self.cell(trip, customer))
+        self.known.put_rows(self.trips, ThreeBest::default());
     }
 
     /// Makes the best exchange or relocation between two routes, if it pays.
@@ -107,31 +90,21 @@ impl SwapStar {
         }
     }
 
-    // Finds the cheapest insertions of the customers of one route into another one that changed.
+    // Finds the cheapest insertions of one route's customers into another route, if that changed since the last time.
     fn prepare(&mut self, trips: &Trips, from: u32, to: u32) {
-        let mut customer = trips.trip(from).first;
         let changed = trips.trip(to).changed;
-        for _ in 0..trips.size {
-            if customer == 0 {
-                return;
+        for customer in trips.customers(from) {
+            if self.known.item(to, *customer).found < changed {
+                let best = three_best(trips, *customer, to);
+                self.known.put(to, *customer, best);
             }
-            if self.known(to, customer).found < changed {
-                let cell = self.cell(to, customer);
-                put(&mut self.insertions, cell, three_best(trips, customer, to));
-            }
-            customer = trips.node(customer).next;
         }
     }
 
     fn best_exchange(&self, trips: &Trips, one: u32, two: u32) -> Exchange {
         let mut best = Exchange::default();
-        let mut u = trips.trip(one).first;
-        for _ in 0..trips.size {
-            if u == 0 {
-                return best;
-            }
-            best = self.best_exchange_of(trips, u, two, best);
-            u = trips.node(u).next;
+        for u in trips.customers(one) {
+            best = self.best_exchange_of(trips, *u, two, best);
         }
         best
     }
@@ -142,20 +115,15 @@ impl SwapStar {
         let (mine, theirs) = (trips.trip(from.trip), trips.trip(two));
         let saved = mine.penalty + theirs.penalty - from.removal;
         let mut best = best;
-        let mut v = theirs.first;
-        for _ in 0..trips.size {
-            if v == 0 {
-                return best;
-            }
-            let node = trips.node(v);
-            let moved = trips.demand(u) - trips.demand(v);
+        for v in trips.customers(two) {
+            let node = trips.node(*v);
+            let moved = from.demand - node.demand;
             let penalties = trips.penalty(mine.load - moved) + trips.penalty(theirs.load + moved);
             let fixed = penalties + node.removal - saved;
-            // Insertions rarely save anything, so other exchanges can hardly pay.
+            // Insertions rarely save anything, so other exchanges hardly ever pay.
             if fixed < Price::ZERO {
-                best = best.cheaper(self.exchange(trips, u, v, fixed));
+                best = best.cheaper(self.exchange(trips, u, *v, fixed));
             }
-            v = node.next;
         }
         best
     }
@@ -174,47 +142,41 @@ impl SwapStar {
         }
     }
 
-    // Returns the cheapest insertion of a customer into the route that another one leaves.
+    // Returns the cheapest insertion of a customer into the route that another one leaves: where that one was, or
+    // elsewhere. At most two of the three best insertions are at the customer that leaves.
     fn replacing(&self, trips: &Trips, customer: u32, leaving: u32) -> Insertion {
         let node = trips.node(leaving);
-        let before = trips.leg(node.previous, customer);
-        let after = trips.leg(customer, node.next);
-        let in_place = before + after - trips.leg(node.previous, node.next);
-        let known = self.known(node.trip, customer);
-        let stays = |other: u32| other != leaving && other != node.previous;
-        let elsewhere = if stays(known.one.after) {
-            known.one
-        } else if stays(known.two.after) {
-            known.two
-        } else {
-            known.three
-        };
-        if elsewhere.price < in_place {
-            return elsewhere;
-        }
-        Insertion {
-            price: in_place,
+        let legs = trips.leg(node.previous, customer) + trips.leg(customer, node.next);
+        let in_place = Insertion {
+            price: legs - trips.leg(node.previous, node.next),
             after: node.previous,
+        };
+        for known in self.known.item(node.trip, customer).insertions {
+            if known.after != leaving && known.after != node.previous {
+                return if known.price < in_place.price {
+                    known
+                } else {
+                    in_place
+                };
+            }
         }
+        in_place
     }
 
-    // Returns the best relocation of a customer of one route into another.
+    // Returns the best relocation of a customer of one route into another, if it pays.
     fn best_relocation(&self, trips: &Trips, from: u32, to: u32) -> Exchange {
         let (mine, theirs) = (trips.trip(from), trips.trip(to));
         let saved = mine.penalty + theirs.penalty;
         let mut best = Exchange::default();
-        let mut u = mine.first;
-        for _ in 0..trips.size {
-            if u == 0 {
-                return best;
-            }
-            let (node, demand, known) = (trips.node(u), trips.demand(u), self.known(to, u).one);
-            let penalties = trips.penalty(mine.load - demand) + trips.penalty(theirs.load + demand);
-            let price = node.removal + known.price + penalties - saved;
+        for u in trips.customers(from) {
+            let node = trips.node(*u);
+            let [cheapest, ..] = self.known.item(to, *u).insertions;
+            let u_penalty = trips.penalty(mine.load - node.demand);
+            let penalties = u_penalty + trips.penalty(theirs.load + node.demand);
+            let price = node.removal + cheapest.price + penalties - saved;
             if price < best.price {
-                (best.price, best.u, best.u_after) = (price, u, known.after);
+                (best.price, best.u, best.u_after) = (price, *u, cheapest.after);
             }
-            u = node.next;
         }
         best
     }
@@ -222,35 +184,39 @@ impl SwapStar {
 
 // Returns the three cheapest insertions of a customer into a route.
 fn three_best(trips: &Trips, customer: u32, trip: u32) -> ThreeBest {
-    let mut best = ThreeBest::default();
-    best.found = trips.moves;
-    (best.one.price, best.two.price, best.three.price) = (Price::MAX, Price::MAX, Price::MAX);
+    let none = Insertion {
+        price: Price::MAX,
+        after: 0,
+    };
+    let mut best = ThreeBest {
+        found: trips.moves,
+        insertions: [none; 3],
+    };
     let mut after = 0;
-    let mut next = trips.trip(trip).first;
-    let mut to_customer = trips.leg(0, customer);
-    let mut leg = trips.node(next).leg_before;
-    for _ in 0..=trips.size {
-        let from_customer = trips.leg(customer, next);
-        best.offer(to_customer + from_customer - leg, after);
-        if next == 0 {
-            return best;
-        }
-        let node = trips.node(next);
-        (after, next) = (next, node.next);
-        (to_customer, leg) = (from_customer, node.leg_after);
+    for next in trips.customers(trip) {
+        let legs = trips.leg(after, customer) + trips.leg(customer, *next);
+        let price = legs - trips.node(*next).leg_before;
+        best.offer(Insertion { price, after });
+        after = *next;
     }
+    let legs = trips.leg(after, customer) + trips.leg(customer, 0);
+    let price = legs - trips.node(after).leg_after;
+    best.offer(Insertion { price, after });
     best
 }
 
-// Moves a customer to the other of two routes, after a customer there or after the depot.
+// Moves a customer, if it is not 0, to the other one of two routes.
 fn relocate(trips: &mut Trips, customer: u32, after: u32, one: u32, two: u32) {
     if customer == 0 {
         return;
     }
     let node = trips.node(customer);
-    let other = if node.trip == one { two } else { one };
     trips.link(node.trip, node.previous, node.next);
-    let next = trips.after(other, after);
+    let other = if node.trip == one { two } else { one };
+    let next = match after {
+        0 => trips.trip(other).first,
+        _ => trips.node(after).next,
+    };
     trips.link(other, after, customer);
     trips.link(other, customer, next);
 }

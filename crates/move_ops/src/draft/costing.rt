@@ -7,7 +7,7 @@ ghost use Rattle.std.specs.Prelude.{◌≡◌, ◌≤◌, ◌+◌, ◌^◌, IfSo
 ghost use Rattle.plan_types.specs.Limits.{IsVisit};
 ghost use Rattle.nint_dist.specs.Distance.{distance, HasValidCoordinates};
 ghost use Rattle.move_ops.specs.Drafts.{draft_of, IsDraftOf};
-ghost use Rattle.move_ops.specs.Costing.{IsCostIfMade};
+ghost use Rattle.move_ops.specs.MoveCosts.{IsCostIfMade};
 ghost use Rattle.move_ops.specs.Legs.{distance_via, distance_across, IsCutOf, IsCostWithLegs, IsSinglePlace, IsSinglePlaceOf};
 ghost use Rattle.move_ops.specs.Insertion.{route_of};
 ghost use Rattle.move_ops.specs.Moves.{exchanged, crossed};
@@ -59,7 +59,7 @@ impl Draft {
     // Returns the place of a single if the vehicle hint of its stop is right.
     fn single_place(&self, problem: &Problem, pins: &Pins, name: u32) -> Option<SinglePlace>
         requires { IsDraftOf problem.now pins.now.routes self.now }
-        ensures { IfSome result (λ seat. IsSinglePlaceOf problem.now (draft_of self.now) name seat) }
+        ensures { IfSome result (λ place. IsSinglePlaceOf problem.now (draft_of self.now) name place) }
     {
         let Some(Request::Single(stop)) = request_named(problem, name) else {
             return None;
@@ -73,21 +73,21 @@ impl Draft {
         })
     }
 
-    // Returns the distance from the stop before the place `seat` to `stop`, and on to the stop after that
+    // Returns the distance from the stop before the place `place` to `stop`, and on to the stop after that
     // place.
-    fn distance_via(&self, problem: &Problem, pins: &Pins, seat: &SinglePlace, stop: &Stop) -> u64
+    fn distance_via(&self, problem: &Problem, pins: &Pins, place: &SinglePlace, stop: &Stop) -> u64
         requires is { IsDraftOf problem.now pins.now.routes self.now }
-        requires single_at { IsSinglePlace (draft_of self.now) seat.now }
+        requires single_at { IsSinglePlace (draft_of self.now) place.now }
         requires stop { IsVisit stop.now }
         ensures value { result ≡ distance_via problem.now
-            (route_of (draft_of self.now) seat.now.vehicle) seat.now.index stop.now }
+            (route_of (draft_of self.now) place.now.vehicle) place.now.index stop.now }
         ensures bound { result ≤ 2 ^ 33 }
     {
-        let table = self.table(seat.vehicle);
+        let table = self.table(place.vehicle);
         // Proves that the route has few stops, so that the number of the next place does not overflow.
         let _few = table.stop_count();
-        let before = table.stop(seat.index);
-        let following = table.stop(seat.index + 2);
+        let before = table.stop(place.index);
+        let following = table.stop(place.index + 2);
         leg_length(before, stop) + leg_length(stop, following)
     }
 

@@ -1,7 +1,7 @@
 //! New routes for vehicles of a draft, in reused memory. The cost is updated with them.
 ghost use Rattle.std.specs.Prelude.{◌≡◌, ◌≤◌, ◌^◌, true, All, IfSome, IfOk, OnOk, OnErr, length};
-ghost use Rattle.move_ops.specs.Pairing.{are_paired};
-ghost use Rattle.move_ops.specs.Refreshing.{AreWithin};
+ghost use Rattle.move_ops.specs.WholePairs.{are_paired};
+ghost use Rattle.move_ops.specs.FreshTables.{AreWithin};
 ghost use Rattle.slack_tables.specs.Course.{course_of, course_route};
 ghost use Rattle.route_sched.specs.Cost.{total_length, vehicle_count};
 ghost use Rattle.route_sched.specs.Route.{AreDistinctStops};

@@ -9,18 +9,18 @@ ghost use Rattle.route_sched.specs.Cost.{cost_of, total_length, unplanned_count}
 ghost use Rattle.slack_tables.specs.Course.{course_of, course_route};
 ghost use Rattle.move_ops.specs.Tables.{AreTablesIn};
 ghost use Rattle.move_ops.specs.Changes.{IsInsertable};
-ghost use Rattle.move_ops.specs.Choosing.{IsBestWithin};
+ghost use Rattle.move_ops.specs.InsertionSearch.{IsBestWithin};
 ghost use Rattle.plan_types.specs.Request.{request_name};
 ghost use Rattle.move_ops.specs.Insertion.{best_insertion, is_place_of, inserted_at, request_named, with_request_at, with_route};
 ghost use Rattle.route_sched.specs.Route.{AreDistinctStops};
 ghost use Rattle.slack_tables.specs.Insertion.{KeepsLimits};
 ghost use Rattle.move_ops.specs.UndoLog.{HasRoute};
-ghost use Rattle.move_ops.specs.Refreshing.{AreWithin};
-ghost use Rattle.move_ops.specs.BoundedPlacing.{IsPlacedBelow};
+ghost use Rattle.move_ops.specs.FreshTables.{AreWithin};
+ghost use Rattle.move_ops.specs.BoundedPlacement.{IsPlacedBelow};
 ghost use Rattle.move_ops.specs.Drafts.{undone, draft_of, base_of, IsDraftOf, IsMade, placed};
 
 use super::Draft;
-use crate::insert::{are_places, insert_into};
+use crate::insert::{Insertion, are_places, insert_into};
 use crate::laws::{best_insertions_are_least, insertion_laws};
 use crate::lists::route_of;
 use crate::naming::request_named;
@@ -94,7 +94,7 @@ impl Draft {
         problem: &Problem,
         pins: &Pins,
         name: u32,
-        place: (u64, u64, u64),
+        place: Insertion,
     ) -> Result<bool, OutOfMemory>
         requires { IsDraftOf problem.now pins.now.routes self.old }
         ensures { IfOk result (λ made.
@@ -117,7 +117,7 @@ impl Draft {
         problem: &Problem,
         pins: &Pins,
         request: &Request,
-    ) -> Option<(u64, u64, u64)>
+    ) -> Option<Insertion>
         requires is { IsDraftOf problem.now pins.now.routes self.now }
         requires request { request_named problem.now (request_name request.now) ≡ Some request.now }
         ensures best { result ≡ best_insertion problem.now pins.now.routes (draft_of self.now)
@@ -136,7 +136,7 @@ impl Draft {
         pins: &Pins,
         request: &Request,
         limit: &Limit,
-    ) -> Option<(u64, u64, u64)>
+    ) -> Option<Insertion>
         requires is { IsDraftOf problem.now pins.now.routes self.now }
         requires request { request_named problem.now (request_name request.now) ≡ Some request.now }
         ensures best { IsBestWithin problem.now pins.now.routes (draft_of self.now) request.now
@@ -184,7 +184,7 @@ impl Draft {
         problem: &Problem,
         pins: &Pins,
         request: &Request,
-        place: (u64, u64, u64),
+        place: Insertion,
     ) -> Result<bool, OutOfMemory>
         requires is { IsDraftOf problem.now pins.now.routes self.now }
         requires request { request_named problem.now (request_name request.now) ≡ Some request.now }
@@ -204,17 +204,25 @@ impl Draft {
         if !self.is_place_of(pins.routes.as_slice(), request, place) {
             return Ok(false);
         }
-        let (vehicle, pickup, delivery) = place;
+        let Insertion {
+            vehicle,
+            pickup,
+            delivery,
+        } = place;
         let mut route = Vec::new(*self.tours.allocator());
         insert_into(&mut route, request, pickup, delivery, self.route(vehicle))?;
         Ok(tour_of(&self.tours, vehicle).is_feasible(problem, &route))
     }
 
     // Returns whether the request can have this place, which must be after the pin of its vehicle.
-    fn is_place_of(&self, pins: &[Route], request: &Request, place: (u64, u64, u64)) -> bool
+    fn is_place_of(&self, pins: &[Route], request: &Request, place: Insertion) -> bool
         ensures { result ≡ is_place_of pins.now (draft_of self.now) request.now place }
     {
-        let (vehicle, pickup, delivery) = place;
+        let Insertion {
+            vehicle,
+            pickup,
+            delivery,
+        } = place;
         if vehicle < 1 || (self.tours.len() as u64) < vehicle {
             return false;
         }
@@ -229,7 +237,7 @@ impl Draft {
         problem: &Problem,
         pins: &Pins,
         request: &Request,
-        place: (u64, u64, u64),
+        place: Insertion,
     ) -> Result<(), OutOfMemory>
         requires is { IsDraftOf problem.now pins.now.routes self.old }
         requires put { IsInsertable problem.now pins.now.routes (draft_of self.old) request.now place }
@@ -239,7 +247,11 @@ impl Draft {
             ≡ with_request_at (draft_of self.old) request.now place) }
         ensures err { OnErr result (self.new ≡ self.old) }
     {
-        let (vehicle, pickup, delivery) = place;
+        let Insertion {
+            vehicle,
+            pickup,
+            delivery,
+        } = place;
         let mut route = mem::replace(&mut self.room, Vec::new(*self.tours.allocator()));
         insert_into(&mut route, request, pickup, delivery, self.route(vehicle))?;
         let unplanned = self.cost.unplanned - 1;

@@ -263,20 +263,20 @@ impl Draft {
         kept <= cut.stops && cut.stops <= stops
     }
 
-    // Returns the stops before the cut `front` of one route, followed by the stops after the cut `back` of
+    // Returns the stops before the cut `first` of one route, followed by the stops after the cut `second` of
     // another.
-    fn joined(&self, front: Cut, back: Cut) -> Result<Route, OutOfMemory>
-        requires front { IsCutOf (draft_of self.now) front }
-        requires back { IsCutOf (draft_of self.now) back }
+    fn joined(&self, first: Cut, second: Cut) -> Result<Route, OutOfMemory>
+        requires first { IsCutOf (draft_of self.now) first }
+        requires second { IsCutOf (draft_of self.now) second }
         ensures { IfOk result
-            (λ new. new ≡ joined (route_of (draft_of self.now) front.vehicle) front.stops
-            (route_of (draft_of self.now) back.vehicle) back.stops) }
+            (λ new. new ≡ joined (route_of (draft_of self.now) first.vehicle) first.stops
+            (route_of (draft_of self.now) second.vehicle) second.stops) }
     {
-        let front = &self.route(front.vehicle)[..front.stops as usize];
-        let back = &self.route(back.vehicle)[back.stops as usize..];
-        let mut new = Route::with_capacity(*self.tours.allocator(), front.len() + back.len())?;
-        new.extend_from_slice(front)?;
-        new.extend_from_slice(back)?;
+        let first = &self.route(first.vehicle)[..first.stops as usize];
+        let second = &self.route(second.vehicle)[second.stops as usize..];
+        let mut new = Route::with_capacity(*self.tours.allocator(), first.len() + second.len())?;
+        new.extend_from_slice(first)?;
+        new.extend_from_slice(second)?;
         Ok(new)
     }
 }

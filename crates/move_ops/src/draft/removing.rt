@@ -13,7 +13,7 @@ ghost use Rattle.std.specs.List.{concat, list_all, IsDistinct};
 ghost use Rattle.plan_types.specs.Request.{stop_in};
 ghost use Rattle.plan_audit.specs.Passes.{feasible_alone, has};
 ghost use Rattle.route_sched.specs.Route.{AreDistinctStops};
-ghost use Rattle.move_ops.specs.Pairing.{are_paired};
+ghost use Rattle.move_ops.specs.WholePairs.{are_paired};
 ghost use Rattle.move_ops.specs.Tables.{AreTablesIn};
 ghost use Rattle.std.specs.Option.{option_map};
 ghost use Rattle.move_ops.specs.Drafts.{draft_of, base_of, IsDraftOf, IsMade};

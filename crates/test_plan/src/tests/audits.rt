@@ -40,7 +40,7 @@ fn verdict_numbers(verdict: Verdict) -> [u64; 4] {
 /// The problem of an example.
 #[derive(Clone, Copy)]
 enum Fixture {
-    /// One pair, with a capacity, the delivery's latest start and the latest return.
+    /// One pair, with the kind of problem, a capacity, the delivery's latest start and the latest return.
     Pair(Kind, u32, u32, u32),
     /// Two pairs and one vehicle.
     TwoPairs,
@@ -174,7 +174,8 @@ fn asks_a_route_for_each_vehicle(rt: HostRuntime) -> Result<(), Fail> {
     Ok(())
 }
 
-// Returns the fault of these stops as the only route: 0 for none, and 1 if they are not known and distinct.
+// Returns the rule that these stops break as the only route: 0 for none, and 1 if they are not known and
+// distinct.
 fn fault_alone(problem: &Problem, stops: &[u32]) -> u32 {
     if !are_distinct_stops(problem, stops) {
         return 1;
@@ -182,7 +183,7 @@ fn fault_alone(problem: &Problem, stops: &[u32]) -> u32 {
     route_fault(problem, stops).unwrap_or(0)
 }
 
-/// Routes over two pairs whose second pickup is due at 2, and the fault of each.
+/// Routes over two pairs whose second pickup is due at 2, and the rule that each breaks, or 0.
 const ROUTE_FAULTS: [(&[u32], u32); 6] = [
     (&[], 0),
     (&[1], 3),
@@ -211,12 +212,12 @@ fn reports_the_fault_of_a_route(rt: HostRuntime) -> Result<(), Fail> {
     Ok(())
 }
 
-// Returns the fault of the route of a pair.
+// Returns the rule that the route of a pair breaks, or 0.
 fn pair_fault(alloc: Global, posed: Fixture) -> Result<u32, Fail> {
     Ok(fault_alone(&build_fixture(alloc, posed)?, &[1, 2]))
 }
 
-/// A pair, and the fault of its route.
+/// A pair, and the rule that its route breaks, or 0.
 const PAIR_FAULTS: [(Fixture, u32); 5] = [
     (Fixture::Pair(Kind::LiLim, 3, 11, 23), 6),
     (Fixture::Pair(Kind::LiLim, 10, 11, 23), 7),
@@ -233,7 +234,7 @@ fn reports_the_fault_of_one_pair(rt: HostRuntime) -> Result<(), Fail> {
     Ok(())
 }
 
-// Counts the broken rule of a verdict; a pass counts as rule 0.
+// Counts the rule that a verdict names. A pass counts as rule 0.
 fn count(seen: &mut [u32], verdict: Verdict) {
     let rule = match verdict {
         Verdict::Pass(_) => 0,
@@ -284,8 +285,8 @@ fn agrees_with_the_slow_auditor(rt: HostRuntime) -> Result<(), Fail> {
     Ok(())
 }
 
-// Returns the fault that the slow auditor finds in a route, or 1 if the stops of the route are not known and
-// distinct. `route_fault` must return the same.
+// Returns the rule that the route breaks by the slow auditor, 0 for none, or 1 if its stops are not known and
+// distinct. `fault_alone` must return the same number.
 fn slow_fault(case: &Case, alone: &[Route]) -> u32 {
     match slow_audit(case, alone, AuditInput::Pins(&[])) {
         Verdict::Broken { rule: 2, .. } => 1,
@@ -341,7 +342,7 @@ fn places_in(alloc: Global, problem: &Problem, routes: &[Route]) -> Result<[usiz
     Ok(places)
 }
 
-// Returns the number of starts and loads for the largest problem in routes of this length.
+// Returns the numbers of starts and of loads for the largest problem in routes of this length.
 fn scheduled(alloc: Global, length: u32) -> Result<[usize; 2], Fail> {
     let routes = most_routes(alloc, length)?;
     places_in(alloc, &most_pairs(alloc)?, routes.as_slice())

@@ -31,7 +31,8 @@ pub(crate) fn single(number: u32, place: (i32, i32), demand: i32, latest: u32) -
     Request::Single(stop_at(number, place, demand, latest, 0))
 }
 
-/// Returns a pickup with demand 1 and this latest start, and its delivery at the same place.
+/// Returns a pickup with demand 1 and this latest start, and its delivery at the same place, with a latest start
+/// of 50.
 pub(crate) fn pair_at(number: u32, place: (i32, i32), latest: u32) -> Request {
     let pickup = stop_at(number, place, 1, latest, 0);
     Request::Pair(pickup, stop_at(number.saturating_add(1), place, -1, 50, 0))
@@ -58,7 +59,8 @@ pub(crate) fn problem_of(
     Ok(problem)
 }
 
-/// Returns a problem of one pickup and its delivery, with a fleet of two.
+/// Returns a problem of one pickup and its delivery, with a fleet of two. `latest` is the latest start of the
+/// delivery, `back` the latest return.
 pub(crate) fn one_pair(
     alloc: Global,
     kind: Kind,
@@ -78,7 +80,8 @@ pub(crate) fn two_pairs(alloc: Global, kind: Kind, latest: u32) -> Result<Proble
     problem_of(alloc, kind, depot_until(100), 10, 1, &requests)
 }
 
-/// Returns a problem with as many pairs as possible, all at the depot, and as many vehicles.
+/// Returns a problem with as many pairs as possible, all at the place of the depot, and as many vehicles as
+/// possible.
 pub(crate) fn most_pairs(alloc: Global) -> Result<Problem, Fail> {
     let mut problem = Problem::new(alloc, Kind::LiLim, depot_until(100), 1, MAX_FLEET)?;
     for pair in 0..MAX_STOP_NUMBER / 2 {
@@ -96,7 +99,8 @@ pub(crate) fn route_between(alloc: Global, first: u32, last: u32) -> Result<Rout
     Ok(route)
 }
 
-/// Returns all stops in ascending order in routes of this length, followed by idle vehicles.
+/// Returns routes of this length with all stops in ascending order, followed by the empty routes of idle
+/// vehicles.
 pub(crate) fn most_routes(alloc: Global, length: u32) -> Result<Routes, Fail> {
     let mut routes = Routes::with_capacity(alloc, MAX_FLEET as usize)?;
     for vehicle in 0..MAX_FLEET {

@@ -1,4 +1,4 @@
-//! Rounded roots and distances.
+//! Rounded square roots and distances.
 ghost use Rattle.plan_types.specs.Limits.{IsCoordinate};
 ghost use Rattle.nint_dist.specs.Distance.{HasValidCoordinates};
 
@@ -20,7 +20,8 @@ fn stop_at(x: i32, y: i32) -> Stop
     }
 }
 
-/// Numbers and their nearest roots: the smallest numbers, and those around the square of 2,048.
+/// Numbers, and their square roots rounded to the nearest: the smallest numbers, and those around the square of
+/// 2,048.
 const ROOTS: [(u64, u64); 15] = [
     (0, 0),
     (1, 1),

@@ -23,7 +23,7 @@ fn copies_a_plan(rt: HostRuntime) -> Result<(), Fail> {
     Ok(())
 }
 
-// Returns how many pins the copy of two pins has.
+// Returns the number of pins in a copy of two pins.
 fn copied_pins(alloc: Global) -> Result<usize, Fail> {
     let pins = Pins {
         routes: routes_of(alloc, &[3], &[])?,
@@ -94,7 +94,7 @@ fn builds_routes(rt: HostRuntime) -> Result<(), Fail> {
     Ok(())
 }
 
-// Replaces the first route, and inserts one more stop before it.
+// Replaces the first route, and inserts a stop at its beginning.
 fn set_first(routes: &mut Routes, route: Route, stop: u32) -> Result<(), Fail> {
     if !routes.as_slice().is_empty() {
         routes.set(0, route);
@@ -111,7 +111,7 @@ fn edits_routes(rt: HostRuntime) -> Result<(), Fail> {
     Ok(())
 }
 
-// Takes the first route out, so that its vehicle stays at the depot, and returns whether it had these stops.
+// Removes the first route, so that its vehicle stays at the depot, and returns whether the route had these stops.
 fn takes_first(alloc: Global, routes: &mut Routes, stops: &[u32]) -> bool {
     if routes.as_slice().is_empty() {
         return false;
@@ -135,7 +135,7 @@ fn copies_the_largest_route(rt: HostRuntime) -> Result<(), Fail> {
     Ok(())
 }
 
-// Returns whether each route has only the stop of its own number.
+// Returns whether the route of each vehicle, numbered from 1, has only the stop with the vehicle's number.
 fn are_singles(routes: &[Route]) -> bool {
     let mut number = 0u32;
     for route in routes {

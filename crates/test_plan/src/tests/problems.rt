@@ -130,7 +130,7 @@ fn removes_a_request_by_name(rt: HostRuntime) -> Result<(), Fail> {
     Ok(())
 }
 
-// Returns the first of two pairs, after the second was removed.
+// Returns a problem of two pairs from which the second pair was removed.
 fn first_pair(alloc: Global) -> Result<Problem, Fail> {
     let mut problem = two_pairs(alloc, Kind::LiLim, 50)?;
     problem.take(3);
@@ -160,8 +160,8 @@ fn removes_no_other_request(rt: HostRuntime) -> Result<(), Fail> {
     Ok(())
 }
 
-// Returns the name, the partner and the pickup that are found for number 4 after a single was inserted with
-// this number again.
+// Returns the name, the partner and the pickup that are found for number 4, after a single with this number,
+// which was free again, was inserted.
 fn found_after_reuse(problem: &mut Problem) -> Result<[u32; 3], PutFault> {
     problem.put(single(4, (0, 0), 1, 100))?;
     Ok(found(problem, 4))

@@ -15,7 +15,7 @@ impl Generator {
         Generator { state: 1 }
     }
 
-    // Returns a number below `below`, which must not be 0.
+    // Returns a number from 0 to `below` - 1. `below` must not be 0.
     fn pick(&mut self, below: u32) -> u32 {
         self.state = self
             .state
@@ -68,7 +68,7 @@ pub(crate) struct Case {
 pub(crate) fn some_case(alloc: Global, words: &mut Generator) -> Result<Case, Fail> {
     let tasks = some_tasks(words);
     let problem = some_problem(alloc, words, &tasks)?;
-    // Now and then there is one vehicle too many.
+    // Now and then the plan has one vehicle more than the fleet.
     let more = u32::from(words.pick(12) == 0);
     let vehicles = problem.fleet.saturating_add(more);
     let lists = some_lists(words, vehicles);
@@ -87,7 +87,7 @@ pub(crate) fn some_case(alloc: Global, words: &mut Generator) -> Result<Case, Fa
     })
 }
 
-// Returns two pairs and a single stop.
+// Returns the stops of two pairs and a single stop.
 fn some_tasks(words: &mut Generator) -> [Task; 5] {
     let one = words.signed(7);
     let other = words.signed(7);
@@ -130,7 +130,7 @@ fn some_problem(alloc: Global, words: &mut Generator, tasks: &[Task; 5]) -> Resu
     problem_of(alloc, kind, depot, capacity, fleet, &requests)
 }
 
-/// The stops of a route in order, with gaps.
+/// The stops of a route in order. An empty element stands for no stop.
 type Stops = [Option<u32>; 6];
 
 // Returns the routes of this number of vehicles, at most four.
@@ -195,7 +195,7 @@ fn served_by(homes: &[Option<u32>; 5], vehicle: u32) -> Stops {
     stops
 }
 
-// Returns the route. Now and then one stop is replaced by another number or by the next stop.
+// Returns the route. Now and then, one stop is replaced by another number, or changes places with the next one.
 fn disturbed(words: &mut Generator, mut stops: Stops) -> Stops {
     let place = words.pick(5) as usize;
     let number = words.pick(96);
@@ -207,7 +207,7 @@ fn disturbed(words: &mut Generator, mut stops: Stops) -> Stops {
     stops
 }
 
-// Returns the first stops of a route, now and then with another stop.
+// Returns the first stops of a route, now and then followed by a number that may not fit.
 fn some_pin(words: &mut Generator, stops: &Stops) -> Stops {
     let length = words.pick(6) as usize;
     let mut pin = *stops;

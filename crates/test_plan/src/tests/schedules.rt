@@ -36,7 +36,8 @@ fn is_priced(cost: Cost) -> bool {
     cost.unplanned == 0 && cost.vehicles == 1 && cost.distance == 20
 }
 
-// Returns whether the starts and loads, the lengths, and the cost of a pair are right.
+// Returns three checks of the route of a pair: of its starts and loads, of its distance and number of visits, and
+// of the cost.
 fn schedule_checks(alloc: Global, problem: &Problem) -> Result<[bool; 3], Fail> {
     if !are_distinct_stops(problem, &[1, 2]) {
         return Ok([false; 3]);

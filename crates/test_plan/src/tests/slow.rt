@@ -13,7 +13,7 @@ pub(crate) enum AuditInput<'a> {
     Cost(u64),
 }
 
-/// A broken rule.
+/// A violation of a rule, as a verdict names it.
 #[derive(Clone, Copy)]
 struct Broken {
     rule: u32,
@@ -23,7 +23,7 @@ struct Broken {
 }
 
 impl Broken {
-    // Returns whether this violation is reported rather than the other.
+    // Returns whether this violation is reported instead of the other, since it comes before it.
     fn precedes(&self, other: &Broken) -> bool {
         if self.rule != other.rule {
             return self.rule < other.rule;
@@ -63,6 +63,7 @@ pub(crate) fn slow_audit(case: &Case, routes: &[Route], asked: AuditInput) -> Ve
     slow.verdict()
 }
 
+/// The input of the slow auditor, and the first violation that it has found so far.
 #[derive(Drop)]
 struct Slow<'a> {
     problem: &'a Problem,
@@ -125,7 +126,7 @@ impl Slow<'_> {
         }
     }
 
-    // Checks the rules on a used route.
+    // Checks the latest return and the number of vehicles, for a route with a stop.
     fn check_used_route(&mut self, number: usize, stops: &[u32]) {
         let problem = self.problem;
         let back = stops.len().saturating_add(1);
@@ -139,7 +140,7 @@ impl Slow<'_> {
         }
     }
 
-    // Checks the rules on the order of stops, at one place.
+    // Checks the rules on the stops and their order, at one place.
     fn check_stop(&mut self, seat: Position, stop: u32, stops: &[u32]) {
         let route = seat.route.saturating_add(1);
         let place = seat.place.saturating_add(1);

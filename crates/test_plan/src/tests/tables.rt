@@ -45,7 +45,7 @@ fn all_keep(kind: Kind, capacity: u32, visits: &[Visit]) -> bool
     true
 }
 
-// Returns the visits of a route and the return.
+// Returns the visits of a route, with the return to the depot as the last one.
 fn visits_of(alloc: Global, problem: &Problem, route: &[u32]) -> Result<Vec<Visit>, OutOfMemory>
     requires { AreDistinctStops problem.now route.now }
     ensures { IfOk result (λ visits. visits.items ≡ visits_from problem.now route.now 0) }
@@ -62,7 +62,7 @@ fn keeps_limits(alloc: Global, problem: &Problem, route: &[u32]) -> Result<bool,
     Ok(all_keep(problem.kind, problem.capacity, visits.as_slice()))
 }
 
-// Returns whether these stops are known and distinct and keep the limits.
+// Returns whether these stops are known and distinct, and their route keeps the limits.
 fn is_fitting(alloc: Global, problem: &Problem, stops: &[u32]) -> Result<bool, Fail>
     ensures once { IfOk result (λ b. IsTrue b → AreDistinctStops problem.now stops.now) }
     ensures limits { IfOk result (λ b. IsTrue b → KeepsLimits problem.now stops.now) }
@@ -84,7 +84,7 @@ fn table_of(alloc: Global, problem: &Problem, stops: &[u32]) -> Result<RouteTabl
     Ok(table)
 }
 
-// Returns the answer of `try_insert`, or `None` if these are not places of the route.
+// Returns the answer of `try_insert`, or `None` if there is no such request or these are not places of the route.
 fn insertion_result(
     problem: &Problem,
     table: &RouteTable,
@@ -124,7 +124,7 @@ fn best_in(
     Some(table.best_places(request, kept, below))
 }
 
-/// The problems of the examples.
+/// The problem of an example.
 #[derive(Clone, Copy)]
 enum Fixture {
     /// The direct leg to stop 3 takes 3, and the latest time of stop 3 is 2.
@@ -146,16 +146,16 @@ fn build_fixture(alloc: Global, which: Fixture) -> Result<Problem, Fail> {
     }
 }
 
-// Returns a problem in which stop 2 lies between the depot and stop 1. By rounded distances, the way via stop 2 is
-// shorter than the direct leg.
+// Returns a problem in which stop 2 lies between the depot and stop 1. By rounded distances, the legs via stop 2
+// together are shorter than the direct leg.
 fn stop_on_the_way(alloc: Global) -> Result<Problem, Fail> {
     let requests = [single(1, (2, 2), 1, 100), single(2, (1, 1), 1, 100)];
     problem_of(alloc, Kind::Vrp, depot_until(100), 10, 1, &requests)
 }
 
 // Returns a problem with stops 1, 2 and 3 on a line, ten apart. The delivery of the pair 4 and 5 lies between 2
-// and 3. There are four other customers: the demand of stop 8 exceeds the free capacity of the vehicle, and stop 9
-// lies far off the line, as does the pair 10 and 11.
+// and 3. Four other customers have one stop each: the demand of stop 8 exceeds the capacity that a route over 1,
+// 2 and 3 leaves free, and stop 9 lies far off the line, as does the pair 10 and 11.
 fn long_line(alloc: Global) -> Result<Problem, Fail> {
     let near = stop_at(4, (5, 0), 1, 100, 0);
     let far = stop_at(10, (20, 1000), 1, 100, 0);
@@ -184,7 +184,7 @@ fn heavy_pairs(alloc: Global) -> Result<Problem, Fail> {
     problem_of(alloc, Kind::LiLim, depot_until(100), 10, 1, &requests)
 }
 
-// Returns whether `try_insert` has this answer, if these are places of the route.
+// Returns whether `try_insert` has the answer `want`, and these are places of the route.
 fn answers(
     problem: &Problem,
     table: &RouteTable,
@@ -200,7 +200,7 @@ fn answers(
     }
 }
 
-// Returns whether a request adds this distance at these places.
+// Returns whether a request adds the distance `want` at these places, or does not fit there if `want` is `None`.
 fn adds(
     alloc: Global,
     problem: &Problem,
@@ -248,8 +248,8 @@ fn inserts_requests(rt: HostRuntime) -> Result<(), Fail> {
     Ok(())
 }
 
-// Returns the distance and the places of `best_places` for a request after the first `kept` stops and below
-// this distance; the places are 0 if there are none.
+// Returns the distance and the places of `best_places` for a request that is inserted after the first `kept`
+// stops and adds less than `below`. The places are 0 if there is no such insertion.
 fn best_answer(
     problem: &Problem,
     table: &RouteTable,
@@ -274,6 +274,7 @@ fn are_best(reported: Option<(i64, [u64; 2])>, distance: i64, places: [u64; 2]) 
     }
 }
 
+/// A row of `BEST_PLACES`.
 type BestPlaces = (Fixture, &'static [u32], u32, u64, i64, i64, [u64; 2]);
 
 /// A problem, a route, a request, the number of stops to keep at the beginning of the route, and the bound on
@@ -328,7 +329,7 @@ fn most_customers(alloc: Global) -> Result<Problem, Fail> {
     Ok(problem)
 }
 
-// Returns whether the last customer can be inserted among all others.
+// Returns whether the last customer adds no distance in the middle of a route of all others.
 fn adds_the_last(alloc: Global) -> Result<bool, Fail> {
     let route = route_between(alloc, 1, 39_999)?;
     let places = (20_000, 20_000);
@@ -392,7 +393,7 @@ fn rebuild(
     Ok(size(table))
 }
 
-// Returns the size of the second route's table, rebuilt from that of the first one.
+// Returns the size of the second route's table, rebuilt from the first route's table in place.
 fn rebuilt(
     alloc: Global,
     problem: &Problem,
@@ -434,8 +435,8 @@ fn into_rebuilt(
     remake(problem, table_of(alloc, problem, first)?, &near, second)
 }
 
-// Returns whether a table that was built for the first route and then for the second one has this number of
-// stops and this length.
+// Returns whether the second route's table has this number of stops and this length, if it is made from the first
+// route's table in both ways.
 fn takes(
     alloc: Global,
     problem: &Problem,
@@ -571,7 +572,7 @@ fn sees_beyond(table: &RouteTable) -> bool {
     true
 }
 
-// Returns whether 7 units of capacity are free: the vehicle carries 10, and 1 for each of its stops.
+// Returns whether 7 units of capacity are free: the vehicle carries 10, and each of its three stops takes 1.
 fn has_room(table: &RouteTable) -> bool {
     table.max_demand() == 7
 }

@@ -10,6 +10,7 @@ use plan_types::Problem;
 use std::alloc::Global;
 use std::test::Fail;
 
+/// A word, a number of things, the number that the word draws among them, and the rest of the word.
 const DRAWS: [(u32, usize, usize, u32); 6] = [
     (0, 1, 0, 0),
     (u32::MAX, 1, 0, u32::MAX),
@@ -71,10 +72,12 @@ const ALONE: TestProblem = TestProblem::Customers(
     ],
 );
 
+/// A plan for `CUSTOMERS`. Each route ends with a 0.
 const BUILT: &[u32] = &[
     2, 1, 3, 0, 6, 5, 4, 0, 8, 7, 11, 0, 10, 9, 0, 12, 0, 0, 0, 0, 0, 0, 0, 0,
 ];
 
+/// A plan for six pairs and six vehicles. Each route ends with a 0.
 const BUILT_PAIRS: &[u32] = &[1, 2, 3, 4, 9, 10, 0, 5, 11, 12, 6, 7, 8, 0, 0, 0, 0, 0];
 
 const TRACES: [Example; 8] = [
@@ -286,7 +289,7 @@ fn orders(rt: HostRuntime) -> Result<(), Fail> {
     Ok(())
 }
 
-// Makes two steps one by one, beginning with step number `step`, and returns the routes of both plans.
+// Makes two steps in two calls, beginning with step number `step`, and returns the routes of both plans.
 fn step_by_step(alloc: Global, case: &Case, step: u64) -> Result<Vec<u32>, Fail>
     requires passing { passes case.now.problem case.now.pins.routes case.now.plan.routes ≡ true }
     requires step { step + 1 < 2 ^ 60 }
@@ -311,7 +314,7 @@ fn step_by_step(alloc: Global, case: &Case, step: u64) -> Result<Vec<u32>, Fail>
     both(alloc, &second?)
 }
 
-// Returns whether two steps in one call find the same as two calls of one step.
+// Returns whether two steps in one call find the same plans as two calls of one step.
 fn steps_continue(alloc: Global, case: &Case, step: u64) -> Result<bool, Fail> {
     if step >= (1 << 60) - 1 || !case.is_passing(alloc)? {
         return Ok(false);

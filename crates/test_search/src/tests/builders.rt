@@ -23,8 +23,8 @@ fn stop_at(number: u32, place: (i32, i32), demand: i32, latest: u32) -> Stop {
     }
 }
 
-// Returns customers with these coordinates and demands, numbered from 1, without windows. The depot is at (0,
-// 0).
+// Returns a problem of customers with these coordinates and demands, numbered from 1, without windows. The depot
+// is at (0, 0).
 fn customers(
     alloc: Global,
     capacity: u32,
@@ -62,8 +62,8 @@ fn pair_at(number: u32, place: (i32, i32), latest: u32) -> Request {
     Request::Pair(pickup, stop_at(number.saturating_add(1), place, -1, 50))
 }
 
-// Returns two pairs at two places, with a fleet of one. The second pickup can be reached in time only via the
-// first place.
+// Returns a problem of two pairs at two places, with a fleet of one. The second pickup can be reached in time
+// only via the first place.
 fn pairs(alloc: Global) -> Result<Problem, Fail> {
     let requests = [pair_at(1, (1, 1), 50), pair_at(3, (2, 2), 2)];
     problem_with(alloc, Kind::LiLim, 1, &requests)
@@ -79,8 +79,8 @@ fn three_pairs(alloc: Global) -> Result<Problem, Fail> {
     problem_with(alloc, Kind::LiLim, 1, &requests)
 }
 
-// Returns two customers with the depot between them. By rounded distances, the direct leg between them is longer
-// than the one via the depot.
+// Returns a problem of two customers with the depot between them, and three vehicles. By rounded distances, the
+// direct leg between the customers is longer than the one via the depot.
 fn opposite(alloc: Global, kind: Kind) -> Result<Problem, Fail> {
     let requests = [
         Request::Single(stop_at(1, (1, 1), 1, 100)),
@@ -121,7 +121,7 @@ fn paired(index: usize) -> Stop {
     }
 }
 
-// Returns the six pairs, with this fleet.
+// Returns the problem of the six pairs, with this fleet.
 fn six_pairs(alloc: Global, fleet: u32) -> Result<Problem, Fail> {
     let depot = stop_at(0, (0, 0), 0, 400);
     let mut problem = Problem::new(alloc, Kind::LiLim, depot, 10, fleet)?;
@@ -157,7 +157,7 @@ pub(crate) enum TestProblem {
     SixPairs(u32),
     /// This many customers on a grid, with a fleet of one.
     Grid(u32),
-    /// Pairs at the depot, and two at (3, 4).
+    /// 64 pairs at the depot, and two at (3, 4).
     PairsAtTheDepot,
 }
 
@@ -168,13 +168,14 @@ pub(crate) const FOUR: TestProblem = TestProblem::Customers(
     &[(0, 10, 1), (6, 8, 1), (6, 0, 1), (3, 4, 1)],
 );
 
-/// The four customers, with vehicles that carry one or two of them.
+/// The customers of `FOUR`, with vehicles that carry one of them.
 pub(crate) const FOUR_BY_ONE: TestProblem = TestProblem::Customers(
     1,
     4,
     &[(0, 10, 1), (6, 8, 1), (6, 0, 1), (3, 4, 1)],
 );
 
+/// The customers of `FOUR`, with vehicles that carry two of them.
 pub(crate) const FOUR_BY_TWO: TestProblem = TestProblem::Customers(
     2,
     4,
@@ -195,7 +196,7 @@ pub(crate) fn problem_of(alloc: Global, given: TestProblem) -> Result<Problem, F
     }
 }
 
-/// Returns customers on a grid, 200 in a row.
+/// Returns a problem of customers on a grid, 200 in a row, each with a demand of 1.
 pub(crate) fn grid(
     alloc: Global,
     customers: u32,
@@ -249,7 +250,7 @@ impl Case {
     }
 }
 
-/// Returns the case of these pins and routes, each ended by a 0.
+/// Returns the case of a problem with these pins and these routes, each ended by a 0.
 pub(crate) fn case_of(
     alloc: Global,
     given: TestProblem,

@@ -6,14 +6,15 @@ use crate::tests::builders::{Case, FOUR_BY_ONE, TestProblem, case_of, stops_of};
 use fleet_reduction::reduce_fleet;
 use log::sink::Discard;
 use plan_types::Kind;
+use seeded_search::SearchContext;
 use std::alloc::Global;
 use std::test::Fail;
 
 /// Three customers on a line, with a fleet of two.
 const LINE: TestProblem = TestProblem::Customers(10, 2, &[(1, 0, 1), (2, 0, 1), (3, 0, 1)]);
 
-/// A problem, whether vehicles count, pins, a plan, the greatest number of steps, the plan after them, and how many
-/// steps were made.
+/// A problem, its kind, pins, a plan, the greatest number of steps, the plan after them, and the number of steps
+/// that were made. Vehicles count only in problems of kind `LiLim`.
 type Row = (
     TestProblem,
     Kind,
@@ -45,8 +46,8 @@ const REDUCED: [Row; 5] = [
         &[0, 2, 3, 1, 0],
         1,
     ),
-    // The vehicle with a pin is kept, though its route is shorter than the other one. Then nothing is movable in
-    // its route.
+    // The vehicle with a pin is kept, though its route is shorter than the other one. Then no request of its
+    // route is movable.
     (
         LINE,
         Kind::LiLim,
@@ -56,7 +57,7 @@ const REDUCED: [Row; 5] = [
         &[1, 3, 0, 2, 0],
         6,
     ),
-    // An empty plan has nothing movable, so the attempt with all vehicles fails.
+    // An empty plan has no movable request, so the attempt with all vehicles fails.
     (LINE, Kind::LiLim, &[0, 0], &[0, 0], 7, &[0, 0], 7),
     // Three vehicles cannot serve four customers who each fill a vehicle.
     (
@@ -72,7 +73,7 @@ const REDUCED: [Row; 5] = [
 
 /// Cases without an attempt.
 const NOT_REDUCED: [Row; 5] = [
-    // Both vehicles have pins.
+    // Each used vehicle has a pin.
     (
         LINE,
         Kind::LiLim,
@@ -101,7 +102,7 @@ const NOT_REDUCED: [Row; 5] = [
         &[0, 0],
         0,
     ),
-    // Vehicles do not count, or there are no steps.
+    // Vehicles do not count, or no steps are to be made.
     (
         LINE,
         Kind::Vrp,
@@ -129,16 +130,13 @@ fn tried(alloc: Global, case: &Case, count: u32) -> Result<Option<(Vec<u32>, u64
     if pinned != case.problem.fleet as usize || !case.is_passing(alloc)? {
         return Ok(None);
     }
-    let tried = reduce_fleet(
-        &Discard,
-        alloc,
-        &case.problem,
-        &case.pins,
-        &case.plan,
-        0,
-        0,
-        count,
-    )?;
+    let context = SearchContext {
+        problem: &case.problem,
+        pins: &case.pins,
+        deviation: 0,
+        seed: 0,
+    };
+    let tried = reduce_fleet(&Discard, alloc, &context, &case.plan, 0, count)?;
     let stops = stops_of(alloc, &tried.plan.routes);
     let step = tried.step;
     drop(tried);

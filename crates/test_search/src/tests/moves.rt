@@ -23,8 +23,8 @@ enum Move {
     Cross(u64, u64, u64, u64),
 }
 
-/// A problem, pins, a plan, and moves. Each move has the resulting plan, which is empty if the move is not possible.
-/// Each pin and each route ends with a 0.
+/// A problem, pins, a plan, and moves. Each move has the resulting plan, which is empty if the move is not
+/// possible. Each pin and each route ends with a 0.
 type Example = (
     TestProblem,
     &'static [u32],
@@ -38,6 +38,7 @@ const PINNED: &[u32] = &[0, 2, 0, 0, 0];
 /// Routes of one stop, with request 3 unplanned.
 const APART: &[u32] = &[1, 0, 2, 0, 4, 0, 0];
 
+/// Requests 2 and 3 in one route, 1 and 4 alone.
 const TOGETHER: &[u32] = &[1, 0, 2, 3, 0, 4, 0, 0];
 
 /// The routes of `TOGETHER` without request 4.
@@ -218,7 +219,8 @@ fn moved(alloc: Global, case: &Case, made: Move) -> Result<Option<Plan>, OutOfMe
     }
 }
 
-// Returns the plan after the move, nothing if there is none, or a single 9 if the given plan does not pass.
+// Returns the plan after the move; nothing if the move is not possible, or a single 9 if the given plan does not
+// pass.
 fn after(alloc: Global, case: &Case, made: Move) -> Result<Vec<u32>, Fail> {
     if !case.is_passing(alloc)? {
         return Ok(vec![in alloc; 9]?);

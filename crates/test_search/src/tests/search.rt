@@ -1,4 +1,4 @@
-//! The words of the search's steps, and the plans that steps find.
+//! The random words of steps, and the plans that steps of the search find.
 use crate::tests::builders::{Case, FOUR, TestProblem, case_of};
 use crate::tests::step_ranges::{Example, StepRange, both, found_from, is_found};
 use seeded_search::{pick, search_step, words};
@@ -7,7 +7,7 @@ use std::test::Fail;
 
 const SEED: u64 = 0x0123_4567_89ab_cdef;
 
-/// RFC 8439, A.1, test vectors 1 and 2.
+/// The words of steps 0 and 1 with seed 0: RFC 8439, A.1, test vectors 1 and 2.
 const ZERO_SEED_WORDS: [[u32; 16]; 2] = [
     [
         0xade0b876, 0x903df1a0, 0xe56a5d40, 0x28bd8653, 0xb819d2bd, 0x1aed8da0, 0xccef36a8,
@@ -21,8 +21,8 @@ const ZERO_SEED_WORDS: [[u32; 16]; 2] = [
     ],
 ];
 
-/// The words of steps of `SEED` around 2^32 and of the last one, from another program: ChaCha20 of Python's
-/// package `cryptography`, whose 16-byte nonce begins with the block's number in 8 bytes.
+/// The words with `SEED` of the steps around 2^32 and of the last step. They come from another program: ChaCha20
+/// of Python's package `cryptography`, whose 16-byte nonce begins with the block's number in 8 bytes.
 const LATE_WORDS: [(u64, [u32; 16]); 3] = [
     (
         (1 << 32) - 1,
@@ -169,7 +169,7 @@ fn steps(rt: HostRuntime) -> Result<(), Fail> {
     Ok(())
 }
 
-// Returns whether two steps in one call find the same as two calls of one step.
+// Returns whether two steps in one call find the same plans as two calls of one step.
 fn steps_continue(alloc: Global, first: u64) -> Result<bool, Fail> {
     let plan = [1, 0, 0, 4, 2, 3, 0, 0];
     let begun = found_from(alloc, FOUR, &[], &plan, StepRange::Search(0, (first, 1)))?;
@@ -179,7 +179,8 @@ fn steps_continue(alloc: Global, first: u64) -> Result<bool, Fail> {
     Ok(best == work && continues_from(alloc, first, &plan, best)?)
 }
 
-// Returns whether the second step, from the plans that the first one found, finds the same as both in one call.
+// Returns whether the second step, from the plans that the first one found, finds the same plans as both in one
+// call.
 fn continues_from(alloc: Global, first: u64, plan: &[u32], begun: &[u32]) -> Result<bool, Fail> {
     let next = StepRange::Search(0, (first.saturating_add(1), 1));
     let ended = found_from(alloc, FOUR, &[], begun, next)?;

@@ -40,7 +40,7 @@ fn steps_have_their_stage(rt: HostRuntime) {
     assert!(rt; stage_of(0, 7, 0) == Some(2));
 }
 
-// Returns this share of the mean leg of a plan, or `None` if the plan does not pass.
+// Returns this share of the mean leg of a plan, in hundredths, or `None` if the plan does not pass.
 fn share_of(
     alloc: Global,
     problem: &Problem,
@@ -55,7 +55,7 @@ fn share_of(
     Ok(Some(mean_leg_share(problem, plan, hundredths)))
 }
 
-// Returns this share of the mean leg of the plan in which one route serves both customers.
+// Returns this share, in hundredths, of the mean leg of the plan in which one route serves both customers.
 fn share_of_two(alloc: Global, hundredths: u32) -> Result<Option<u32>, Fail> {
     let case = case_of(alloc, TWO, &[], &[1, 2, 0])?;
     let mean_leg_share = share_of(alloc, &case.problem, &case.pins, &case.plan, hundredths);

@@ -9,7 +9,7 @@ use seeded_search::{Found, search_steps};
 use std::alloc::Global;
 use std::test::Fail;
 
-/// Steps of one kind: the first one, and how many.
+/// Steps of one kind: the number of the first step, and how many steps are made.
 #[derive(Clone, Copy)]
 pub(crate) enum StepRange {
     /// Search steps with this deviation, and with seed 0.
@@ -64,8 +64,8 @@ fn steps_of(alloc: Global, case: &Case, walk: StepRange) -> Result<Option<Found>
     Ok(Some(found))
 }
 
-/// Returns the plans that steps find from one plan as incumbent and working plan; nothing if that plan does not
-/// pass.
+/// Returns the plans that steps find from one plan as incumbent and as working plan; nothing if that plan does
+/// not pass.
 pub(crate) fn found(alloc: Global, case: &Case, walk: StepRange) -> Result<Vec<u32>, Fail> {
     if !case.is_passing(alloc)? {
         return Ok(Vec::new(alloc));

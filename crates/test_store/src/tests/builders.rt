@@ -2,7 +2,7 @@
 
 use checkpoint::{format, format_with};
 use command_core::State;
-use recover::{Opened, Session};
+use recover::{OpenedStore, Session};
 use sector_disk::{DeviceFault, MemDevice, SECTOR_SIZE, Sectors};
 use state_codec::decode_state;
 use std::alloc::Global;
@@ -12,7 +12,7 @@ use std::test::Fail;
 /// The number of sectors of the smallest store of the current version.
 pub const SECTORS: u64 = 8450;
 
-/// A loaded state without plan: one customer, 1 at (3, 4) with demand 6, a capacity of 10 and one vehicle.
+/// A loaded state without a plan, as bytes: customer 1 at (3, 4) with demand 6, a capacity of 10 and one vehicle.
 pub const LOADED: [u8; 95] = [
     1, 2, 0, 0, 0, 0, 0, 0, 0, 0, 0, 0, 0, 0, 0, 0, 0, 0, 0, 0, 0, 10, 0, 0, 0, 1, 0, 0, 0, 2, 0,
     0, 0, 0, 0, 0, 0, 0, 0, 0, 0, 0, 5, 245, 225, 0, 0, 0, 0, 0, 0, 0, 0, 1, 1, 0, 0, 0, 1, 0, 0,
@@ -20,7 +20,7 @@ pub const LOADED: [u8; 95] = [
     0, 0, 0, 0,
 ];
 
-/// The state of `LOADED` in version 1. Its bytes 24 and 25 hold the next number.
+/// The state of `LOADED` as bytes of version 1. Its bytes 24 and 25 hold the next number.
 pub const LOADED_V1: [u8; 75] = [
     1, 2, 0, 0, 0, 0, 0, 0, 0, 0, 0, 0, 0, 0, 0, 0, 0, 0, 0, 0, 0, 10, 0, 1, 0, 2, 0, 0, 0, 0, 0,
     0, 0, 0, 0, 0, 0, 0, 5, 245, 225, 0, 0, 1, 1, 0, 1, 0, 0, 0, 3, 0, 0, 0, 4, 0, 0, 0, 6, 0, 0,
@@ -39,7 +39,7 @@ pub fn read_sector(
     Some(bytes)
 }
 
-/// Writes a sector.
+/// Writes a sector of the device.
 pub fn write_sector(
     rt: &impl Abort,
     device: &mut impl Sectors,
@@ -68,14 +68,14 @@ pub fn header(version: u32, sequence: u64, length: u64) -> [u8; SECTOR_SIZE] {
     sector
 }
 
-/// Returns a store of the empty state.
+/// Returns a device with a store of the empty state.
 pub fn empty_store(alloc: Global) -> Result<MemDevice, Fail> {
     let mut device = MemDevice::new(alloc, SECTORS)?;
     format(alloc, &mut device)?;
     Ok(device)
 }
 
-/// Returns a store of the loaded state.
+/// Returns a device with a store of the loaded state.
 pub fn loaded_store(alloc: Global) -> Result<MemDevice, Fail> {
     let mut device = MemDevice::new(alloc, SECTORS)?;
     format_loaded(alloc, &mut device)?;
@@ -94,7 +94,7 @@ fn format_as(alloc: Global, device: &mut MemDevice, state: &State) -> Result<(),
     Ok(())
 }
 
-pub fn open(alloc: Global, device: MemDevice) -> Result<Opened<MemDevice>, Fail> {
+pub fn open(alloc: Global, device: MemDevice) -> Result<OpenedStore<MemDevice>, Fail> {
     match Session::open(alloc, device) {
         Ok(opened) => Ok(opened),
         Err((fault, _)) => Err(fault.into()),
@@ -102,7 +102,7 @@ pub fn open(alloc: Global, device: MemDevice) -> Result<Opened<MemDevice>, Fail>
 }
 
 /// Returns the fault with which a device was refused and the number of its finished calls, or `None` if it was
-/// accepted.
+/// not refused.
 pub fn refusal<T: Drop, F>(outcome: Result<T, (F, MemDevice)>) -> Option<(F, u64)> {
     match outcome {
         Ok(_) => None,

@@ -4,8 +4,8 @@ use crate::tests::builders::{
     LOADED_V1, SECTORS, empty_store, header, read_sector, sector_of, write_sector,
 };
 use checkpoint::{
-    FormatFault, Loaded, Place, StoreFault, commit_record, commit_snapshot, format, format_with,
-    load, load_latest, load_latest_v1,
+    FormatFault, Place, StoreContent, StoreFault, commit_record, commit_snapshot, format,
+    format_with, load, load_latest, load_latest_v1,
 };
 use command_core::{Command, State};
 use sector_disk::{DeviceFault, MemDevice, Sectors};
@@ -24,8 +24,8 @@ fn fault(alloc: Global, device: &mut MemDevice) -> Option<StoreFault> {
     load_latest(alloc, device).err()
 }
 
-// Formats a device with one sector more than needed. Returns the place, the number of finished calls, and why
-// the device then holds no store.
+// Formats a device with one sector more than needed. Returns the place of the store, the number of finished
+// calls, and why the device then holds no store, or `None` if it holds one.
 fn formatted(alloc: Global) -> Result<(Place, u64, Option<StoreFault>), Fail> {
     let mut device = MemDevice::new(alloc, SECTORS + 1)?;
     let place = format(alloc, &mut device)?;
@@ -79,7 +79,7 @@ fn a_small_device_is_not_called(rt: HostRuntime) -> Result<(), Fail> {
 }
 
 // Crashes a format after this number of finished calls. Returns why the format failed, and why the device then
-// holds no store. If `kept` is 0, unsynced writes are lost; if it is 1, they are kept.
+// holds no store. If `kept` is 1, the crash keeps an unsynced header; if it is 0, it does not.
 fn crashed_format(
     alloc: Global,
     finished: u64,
@@ -92,7 +92,7 @@ fn crashed_format(
     Ok((stopped, fault(alloc, &mut device)))
 }
 
-/// The number of calls before the crash, whether unsynced writes are kept, and why there is no store then.
+/// The number of calls before the crash, whether the unsynced header is kept, and why there is no store then.
 const CRASHES: [(u64, u32, Option<StoreFault>); 6] = [
     (3, 0, NO_STORE),
     (3, 1, NO_STORE),
@@ -130,7 +130,7 @@ fn commit_pin(rt: &impl Abort, device: &mut MemDevice, place: Place) -> Result<P
     commit_record(device, place, &Command::Pin(1, 2))
 }
 
-/// The place of a store of the empty state.
+/// The place of a new store.
 const FIRST: Place = Place {
     sequence: 1,
     used: 0,
@@ -160,7 +160,7 @@ fn records_follow_one_another(rt: HostRuntime) -> Result<(), Fail> {
 }
 
 // Returns the content of the store on the device.
-fn held_by(alloc: Global, mut device: MemDevice) -> Result<Loaded, Fail> {
+fn held_by(alloc: Global, mut device: MemDevice) -> Result<StoreContent, Fail> {
     Ok(load_latest(alloc, &mut device)?)
 }
 
@@ -277,8 +277,8 @@ fn a_sequence_above_the_last_one_is_not_valid(rt: HostRuntime) -> Result<(), Fai
     Ok(())
 }
 
-// Writes the loaded state with a header of this version and this next number, and a record of this kind, filled
-// with zeros.
+// Writes a header of this version, the loaded state of version 1 with this next number, and a record of this kind
+// with zeros in its fields.
 fn write_v1(
     rt: &impl Abort,
     device: &mut MemDevice,
@@ -294,7 +294,7 @@ fn write_v1(
     write_sector(rt, device, 2, &record)
 }
 
-// Returns why a device with these contents is not a store.
+// Returns why a device with these contents holds no store, or `None` if it holds one.
 fn fault_v1(
     rt: &(impl Abort + AllocGlobal),
     version: u32,

@@ -33,7 +33,7 @@ fn is_empty(read: Result<State, CodecFault>) -> bool {
     is_empty
 }
 
-// Returns whether this sector is not a record with this sequence and index.
+// Returns whether this sector holds no record with this sequence and index.
 fn is_none(record: &[u8; 512], sequence: u64, index: u32) -> bool {
     let command = decode_record(record, sequence, index);
     let is_none = command.is_none();
@@ -153,7 +153,7 @@ fn planned_v1(alloc: Global, demand: u8, end: &[u8]) -> Result<State, CodecFault
 
 #[test]
 fn plans_of_version_1_are_judged(rt: HostRuntime) {
-    // The pin, the route and its stops.
+    // The length of the pin, the number of stops of the route, and its stop.
     let planned = [0, 0, 0, 1, 0, 1];
     assert!(rt; is_loaded(planned_v1(rt.alloc(), 6, &planned)));
     let overloaded = planned_v1(rt.alloc(), 11, &planned).err();

@@ -60,7 +60,7 @@ fn write_all(rt: &impl Abort, device: &mut MemDevice) -> Result<(), DeviceFault>
     write_one(rt, device, 2, 9)
 }
 
-// Returns the contents of that device after a crash with these choices.
+// Returns the contents of the device of `written` after a crash with these choices.
 fn left(rt: &(impl Abort + AllocGlobal), choices: &[u32]) -> Result<[Option<u8>; 3], Fail> {
     let mut device = written(rt)?;
     device.crash(choices);
@@ -144,7 +144,7 @@ fn a_fuse_allows_k_calls(rt: HostRuntime) -> Result<(), Fail> {
     Ok(())
 }
 
-// Returns the contents after a crash with this choice for each sector.
+// Returns the contents of the device of `fused` after a crash with this choice for each sector.
 fn left_by_fuse(
     rt: &(impl Abort + AllocGlobal),
     k: u64,
@@ -197,7 +197,7 @@ fn the_first_failed_write_of_a_fuse_may_be_kept(rt: HostRuntime) -> Result<(), F
     assert!(rt; device.sync().is_err());
     assert!(rt; write_one(&rt, &mut device, 0, 5).is_err());
     assert!(rt; write_one(&rt, &mut device, 0, 6).is_err());
-    // There are two possible contents, so choice 3 is the one that was written first.
+    // Two contents are possible: zeros, and the one that was written first. So choice 3 is the second one.
     device.crash(&[3]);
     assert!(rt; read_one(&rt, &mut device, 0) == Some(5));
     Ok(())

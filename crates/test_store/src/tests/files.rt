@@ -126,13 +126,13 @@ fn no_device_is_reported(rt: HostRuntime) {
 
 // Returns the kind of the system error if there is no device at this path.
 fn cause_at(rt: &HostRuntime, path: &str) -> Option<ErrorKind> {
-    let refusal = FileDevice::at_or_cause(rt, path, UnknownFile).err()?;
+    let refusal = FileDevice::open(rt, path, UnknownFile).err()?;
     Some(refusal.cause?.kind())
 }
 
 // Returns the kind of the system error if no device is created at this path.
 fn cause_of_create(rt: &HostRuntime, path: &str) -> Option<ErrorKind> {
-    let refusal = FileDevice::create_or_cause(rt, path, 1, UnknownFile).err()?;
+    let refusal = FileDevice::create_with_cause(rt, path, 1, UnknownFile).err()?;
     Some(refusal.cause?.kind())
 }
 

@@ -63,7 +63,7 @@ fn commands(alloc: Global) -> Result<Vec<Command>, Fail> {
     Ok(commands)
 }
 
-// Returns the answers of a new store to these commands.
+// Returns the answers of a new store to the commands of `commands`.
 fn run(alloc: Global) -> Result<Run, Fail> {
     let commands = commands(alloc)?;
     let mut session = open(alloc, empty_store(alloc)?)?.session;
@@ -100,7 +100,7 @@ fn opened_counts(alloc: Global, device: MemDevice) -> Result<(u64, (u64, usize))
     Ok(reported)
 }
 
-// The result of annealing is stored as a snapshot, with four calls, and is not computed again.
+// The result of annealing is stored as a snapshot, with four calls, and opening does not compute it again.
 #[test]
 fn annealing_becomes_a_snapshot(rt: HostRuntime) -> Result<(), Fail> {
     let mut session = searched(rt.alloc(), 2)?;

@@ -11,7 +11,8 @@ use sector_disk::{MemDevice, Sectors};
 use std::alloc::Global;
 use std::test::Fail;
 
-/// The end of a restart. In a crash each sector takes the first content written since the last sync.
+/// The end of a restart: closed, or killed or crashed once that many calls have finished. In a crash each sector
+/// takes the first content written since the last sync.
 #[derive(Clone, Copy)]
 enum End {
     Closed,
@@ -120,7 +121,8 @@ fn ends_with_outcomes(
     Ok(have_come)
 }
 
-// The second search's record is not written: 1 + 2 calls were made.
+// The record of the second search is not written: the kill comes after the call of the opening and two of the
+// first search.
 #[test]
 fn a_kill_before_a_record(rt: HostRuntime) -> Result<(), Fail> {
     let all = [BEGIN, (SEARCHES, End::Killed(3))];
@@ -136,7 +138,7 @@ fn a_kill_after_a_record(rt: HostRuntime) -> Result<(), Fail> {
     Ok(())
 }
 
-// The content of the failed write is still possible after the kill: a crash during the next opening chooses it.
+// The content of the failed write is still possible after the kill. A crash during the next opening chooses it.
 #[test]
 fn a_kill_and_then_a_crash_within_the_opening(rt: HostRuntime) -> Result<(), Fail> {
     let all = [

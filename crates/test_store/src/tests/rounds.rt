@@ -36,8 +36,8 @@ pub fn commands_of(alloc: Global, steps: &[Step]) -> Result<Vec<Command>, Fail> 
     Ok(commands)
 }
 
-/// The commands of a round, and after how many more finished calls every call fails. Each sector then takes its
-/// synced content.
+/// The commands of a round, and, if it crashes, the number of calls after which every call fails. In a crash each
+/// sector keeps its synced content.
 type Script = (&'static [Step], Option<u64>);
 
 const BEGIN: Script = (&[Step::Load, Step::Build], None);
@@ -91,7 +91,7 @@ fn bytes_of(alloc: Global, state: &State) -> Result<Vec<u8>, Fail> {
     Ok(encode_state(alloc, state)?)
 }
 
-// Returns the state that the three rounds leave.
+// Returns the state that the rounds of `IN_ROUNDS` leave, as bytes.
 fn interrupted(alloc: Global) -> Result<Vec<u8>, Fail> {
     let rounds = run_over_none(alloc, &IN_ROUNDS)?;
     let bytes = bytes_of(alloc, rounds.session.state());
@@ -106,7 +106,7 @@ fn next(alloc: Global, state: State, command: &Command) -> Result<State, Refusal
     next
 }
 
-// Returns the state after commands, without a store.
+// Returns the state after these commands, computed without a store.
 fn state_after(alloc: Global, commands: &[Command]) -> Result<State, Fail> {
     let mut state = State::Empty;
     for command in commands {
@@ -115,7 +115,8 @@ fn state_after(alloc: Global, commands: &[Command]) -> Result<State, Fail> {
     Ok(state)
 }
 
-// Returns the state after the same number of steps in one uninterrupted run.
+// Returns the state after the commands of `IN_ONE_RUN`, which make as many steps without an interruption, as
+// bytes.
 fn uninterrupted(alloc: Global) -> Result<Vec<u8>, Fail> {
     let commands = commands_of(alloc, &IN_ONE_RUN)?;
     let state = state_after(alloc, &commands)?;

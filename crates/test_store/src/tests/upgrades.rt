@@ -18,8 +18,8 @@ const BUILD: [u8; 13] = [0, 0, 0, 0, 0, 0, 0, 1, 0, 0, 0, 0, 6];
 /// Record 1 of sequence 1: Search of 256 steps.
 const SEARCH: [u8; 15] = [0, 0, 0, 0, 0, 0, 0, 1, 0, 0, 0, 1, 7, 1, 0];
 
-// Returns a store of version 1 with the loaded state and two records, written by hand. Its snapshot is in the
-// half of sequence 1.
+// Returns a store of version 1 with the loaded state and two records, of which `second` is the second one. Its
+// snapshot is in the half of sequence 1.
 fn store_v1(rt: &(impl Abort + AllocGlobal), second: &[u8]) -> Result<MemDevice, Fail> {
     let mut device = MemDevice::new(rt.alloc(), SECTORS_V1)?;
     write_store_v1(rt, &mut device, second)?;

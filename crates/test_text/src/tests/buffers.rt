@@ -1,4 +1,4 @@
-//! A text for people, appended piece by piece.
+//! Texts that are appended piece by piece.
 
 use std::alloc::Global;
 use std::test::Fail;

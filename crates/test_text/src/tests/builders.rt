@@ -1,10 +1,10 @@
-//! Inputs and problems that more than one of the examples uses.
+//! Inputs that several of the examples use, and the building of long inputs.
 
 use instance_read::{Format, ReadFault};
 use plan_types::{Kind, Problem};
 use std::alloc::{AllocError, Global};
 
-/// One pickup and its delivery: the vehicle serves them at 5 and at 12, and is back at 24.
+/// One pickup and its delivery. The vehicle serves them at 5 and at 12, and is back at 24.
 pub const ONE_PAIR: &[u8] =
     b"2 10 1\n0 0 0 0 0 100 0 0 0\n1 3 4 4 0 50 2 0 2\n2 6 8 -4 0 60 2 1 0\n";
 
@@ -13,7 +13,7 @@ pub fn read_instance(alloc: Global, kind: Kind, text: &[u8]) -> Result<Problem, 
     instance_read::read_instance(alloc, Format::of_kind(kind), text)
 }
 
-/// The form of numbered lines, which count from 1.
+/// The form of a numbered line or piece. Numbers count from 1.
 #[derive(Clone, Copy)]
 pub enum Form {
     /// Pair k: stop 2k is the delivery of stop 2k-1.
@@ -26,9 +26,9 @@ pub enum Form {
     Customer,
     /// Route n visits stop n.
     Route,
-    /// One more stop of a route.
+    /// The number of stop n in a route, after a space.
     Stop,
-    /// One more digit of a number.
+    /// The digit 9.
     Nine,
 }
 
@@ -41,7 +41,7 @@ fn pair_line(alloc: Global, before: u32) -> Result<String, AllocError> {
     )
 }
 
-// Returns the line after the first `before` lines.
+// Returns the line or piece of this form after the first `before` ones.
 fn line_of(alloc: Global, form: Form, before: u32) -> Result<String, AllocError> {
     let number = before.saturating_add(1);
     match form {
@@ -59,7 +59,7 @@ fn line_of(alloc: Global, form: Form, before: u32) -> Result<String, AllocError>
 #[derive(Clone, Copy)]
 pub enum Part {
     Text(&'static [u8]),
-    /// This number of lines of a form.
+    /// The given number of lines or pieces of a form.
     Lines(Form, u32),
 }
 

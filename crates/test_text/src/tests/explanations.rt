@@ -1,8 +1,9 @@
-//! The text after the cost line of a solution. `tests/texts.py` compares the texts for verdicts and faults.
+//! The text after the cost line of a solution. `tests/texts.py` compares the explanations of verdicts and
+//! faults.
 
 use plan_explain::line_after_cost;
 
-/// A solution, and the first line after its cost line that is not blank.
+/// Solutions, and the number of the first line after the cost line of each that is not blank.
 const AFTER_COST: [(&[u8], Option<u64>); 9] = [
     (b"", None),
     (b"Route #1: 1 2\nCost 20\n", None),

@@ -11,14 +11,15 @@ use std::alloc::Global;
 use std::test::Fail;
 use test_examples::THREE_CUSTOMERS;
 
-/// The greatest number of stops of a problem.
+/// The greatest number of stops that a problem may have.
 const STOPS: u32 = limits::MAX_STOP_NUMBER;
 
-/// Two pairs, in which stop 2k is the delivery of stop 2k-1, with many forms of blanks, signs and line ends.
+/// Two pairs, in which stop 2k is the delivery of stop 2k-1, with many forms of blanks, signs and line ends. The
+/// depot has a demand and a service, which are ignored.
 const REWRITTEN_PAIRS: &[u8] =
     b" \r\n1\t10.0  +1. \r\n\n0 0 0 7 0 100 9 0 0\r\n1 1 1 1 0 50 0 0 2\n\t2 1 1 -1 0 50 0 1 0\n3 2 2 1 0 2 0 0 4\n4 2 2 -1 0 50 0 3 0";
 
-/// The three customers, written differently: blanks, tabs, letter case, line ends, order of sections, no EOF.
+/// `THREE_CUSTOMERS` with other blanks, tabs, letter case, line ends and order of sections, and without EOF.
 const REWRITTEN_CUSTOMERS: &[u8] = b"name :\tt3\r
 type : cvrp\r
 Depot_Section\r
@@ -41,7 +42,7 @@ NODE_COORD_SECTION : x\r
 /// The fleet, the capacity, the next number, and the number of requests.
 pub type Counts = [usize; 4];
 
-/// A stop's number, its coordinates, its demand, the end of its window, and the name of its request.
+/// The number of a stop; and its coordinates, its demand, the end of its window, and the name of its request.
 pub type Spot = (u32, [i64; 5]);
 
 fn counts_of(problem: &Problem) -> Counts {
@@ -74,7 +75,7 @@ fn has_spots(problem: &Problem, spots: &[Spot]) -> bool {
     true
 }
 
-/// Returns whether a problem has these values and stops, and a depot without demand and service.
+/// Returns whether a problem has this kind, these counts and stops, and a depot without demand and service.
 pub fn has_counts(problem: &Problem, kind: Kind, figures: Counts, spots: &[Spot]) -> bool {
     problem.kind == kind
         && problem.depot.demand == 0
@@ -83,7 +84,7 @@ pub fn has_counts(problem: &Problem, kind: Kind, figures: Counts, spots: &[Spot]
         && has_spots(problem, spots)
 }
 
-// Returns whether an instance is read as a problem with these values and stops.
+// Returns whether an instance is read as a problem with these counts and stops.
 fn is_read_as(alloc: Global, kind: Kind, text: &[u8], figures: Counts, spots: &[Spot]) -> bool {
     match read_instance(alloc, kind, text) {
         Ok(problem) => {
@@ -95,15 +96,14 @@ fn is_read_as(alloc: Global, kind: Kind, text: &[u8], figures: Counts, spots: &[
     }
 }
 
-/// The stops of the three customers.
+/// The stops of `THREE_CUSTOMERS`.
 const CUSTOMERS: [Spot; 3] = [
     (1, [3, 4, 6, 100_000_000, 1]),
     (2, [6, 8, 4, 100_000_000, 2]),
     (3, [0, 5, 5, 100_000_000, 3]),
 ];
 
-/// Instances, and the expected problems. The depot of the rewritten pairs has a demand and a service, which are
-/// ignored.
+/// Instances, and the expected problem of each.
 const READ: [(Kind, &[u8], Counts, &[Spot]); 5] = [
     (
         Kind::LiLim,
@@ -142,7 +142,7 @@ fn is_refused(alloc: Global, kind: Kind, text: &[u8], line: u64, fault: ReadFaul
     }
 }
 
-// Returns the index of the first instance that is not refused as expected.
+// Returns the index of the first row whose instance is not refused as expected.
 fn first_other(alloc: Global, kind: Kind, rows: &[(&[u8], u64, ReadFaultKind)]) -> Option<usize> {
     for (row, (text, line, fault)) in rows.iter().enumerate() {
         if !is_refused(alloc, kind, text, *line, *fault) {
@@ -152,7 +152,7 @@ fn first_other(alloc: Global, kind: Kind, rows: &[(&[u8], u64, ReadFaultKind)]) 
     None
 }
 
-/// Li-Lim instances, and the line and the kind of the first fault of each.
+/// Li-Lim instances, with the line and the kind of the first fault of each.
 const PAIR_FAULTS: [(&[u8], u64, ReadFaultKind); 22] = [
     (b"", 1, Truncated),
     (b"\n \n", 3, Truncated),
@@ -221,7 +221,7 @@ fn names_faults(rt: HostRuntime) {
     assert!(rt; fault.name() == "Truncated");
 }
 
-/// `.vrp` instances with a fault outside the sections.
+/// `.vrp` instances with a fault outside the sections, with its line and its kind.
 const KEY_FAULTS: [(&[u8], u64, ReadFaultKind); 23] = [
     (b"", 1, MissingKey),
     (b"DIMENSION : 4\n\n", 3, MissingKey),
@@ -254,7 +254,7 @@ fn reports_the_first_fault_of_a_key(rt: HostRuntime) {
     assert!(rt; row.is_none(), "row {row:?}");
 }
 
-/// `.vrp` instances with a fault in a section.
+/// `.vrp` instances with a fault in a section, with its line and its kind.
 const SECTION_FAULTS: [(&[u8], u64, ReadFaultKind); 8] = [
     (
         b"DIMENSION : 2\nNODE_COORD_SECTION\n1 30.5 1000001\n",
@@ -284,8 +284,8 @@ fn reports_the_first_fault_of_a_section(rt: HostRuntime) {
     assert!(rt; row.is_none(), "row {row:?}");
 }
 
-// Only these prefixes are instances: up to the end of the list of depots, with and without its line end, and
-// with a part of EOF.
+// A prefix is an instance only if it has the whole list of depots, with or without its line end. A part of EOF
+// may follow.
 #[test]
 fn reads_every_prefix(rt: HostRuntime) {
     for end in 0..THREE_CUSTOMERS.len() {
@@ -301,6 +301,7 @@ fn reports_a_truncated_section(rt: HostRuntime) {
     assert!(rt; is_refused(rt.alloc(), Kind::Vrp, nine_lines, 10, truncated));
 }
 
+/// A capacity of a million digits.
 const LONG_NUMBER: [Part; 2] = [
     Part::Text(b"\nCAPACITY : "),
     Part::Lines(Form::Nine, 1_000_000),
@@ -330,7 +331,8 @@ const MOST_CUSTOMERS: [Part; 5] = [
     Part::Text(b"DEPOT_SECTION\n1\n-1\nEOF\n"),
 ];
 
-/// The largest instances, and what is expected: the last pair, and the first and the last customer.
+/// The largest instances, with the counts and some of the stops that are expected: the last pair, and the first
+/// and the last customer.
 const LARGEST: [(Kind, &[Part], Counts, &[Spot]); 2] = [
     (
         Kind::LiLim,
@@ -361,7 +363,7 @@ fn reads_the_most_tasks(rt: HostRuntime) -> Result<(), Fail> {
     Ok(())
 }
 
-/// Lines, and the key and the value of each.
+/// Lines, with the key and the value of each.
 const KEY_LINES: [(&[u8], &[u8], &[u8]); 4] = [
     (b"DIMENSION : 5", b"DIMENSION", b"5"),
     (b"\tType:CVRP \t", b"Type", b"CVRP"),

@@ -27,7 +27,7 @@ fn has_words(line: &[u8], wanted: &[&[u8]]) -> bool {
     words.next().is_none()
 }
 
-/// Files, and the lines of each.
+/// Files, and the lines into which each is cut.
 const LINES: [(&[u8], &[&[u8]]); 3] = [
     (
         b"a\tbc \r\n\r\r\n \t\n\nd\r",
@@ -60,7 +60,7 @@ fn knows_blanks(rt: HostRuntime) {
     assert!(rt; trim_blanks_start(b"\t x ") == b"x ".as_slice());
 }
 
-/// A question about a word, with the expected answer.
+/// A question about a word, together with the expected answer.
 #[derive(Clone, Copy)]
 enum Answer {
     /// The word is not a number.
@@ -100,7 +100,7 @@ fn is_u64(number: Option<Number>, value: Option<u64>) -> bool {
     }
 }
 
-// Returns whether this is the answer for a word.
+// Returns whether the functions of `text_lines` answer this for a word.
 fn answers(word: &[u8], answer: &Answer) -> bool {
     match answer {
         Answer::NoNumber => Number::parse(word).is_none() && number_to_u64(word).is_none(),
@@ -119,7 +119,7 @@ fn answers(word: &[u8], answer: &Answer) -> bool {
     }
 }
 
-/// Words, and the answer for each.
+/// Words, and the expected answer for each.
 const ANSWERS: [(&[u8], Answer); 33] = [
     (b"0", Answer::Within(-1_000_000, 100_000_000, Some(0))),
     (b"007", Answer::Within(-1_000_000, 100_000_000, Some(7))),
@@ -182,7 +182,8 @@ fn reads_numbers(rt: HostRuntime) {
     assert!(rt; leading_digits_len(b"12x3") == 2);
 }
 
-// Returns whether these are the next numbers of a line, each within -999 to 999, and no word follows them.
+// Returns whether the words of a line are exactly these numbers. `None` means that a word is not a number in
+// -999..=999, or is missing.
 fn has_numbers(line: &[u8], values: &[Option<i32>]) -> bool {
     let mut words = Words::new(line);
     for value in values {
@@ -193,7 +194,7 @@ fn has_numbers(line: &[u8], values: &[Option<i32>]) -> bool {
     words.next().is_none()
 }
 
-/// Lines, and the next numbers of each.
+/// Lines, and the numbers of their words, as `has_numbers` expects them.
 const NEXT_NUMBERS: [(&[u8], &[Option<i32>]); 6] = [
     (b"5 -6  007", &[Some(5), Some(-6), Some(7)]),
     (b"\t +5.0 -0.\t1000", &[Some(5), Some(0), None]),

@@ -1,4 +1,4 @@
-//! Plans as pictures.
+//! Pictures of plans.
 
 use plan_audit::Verdict;
 use plan_picture::{draw, draw_route};
@@ -18,8 +18,8 @@ fn stop_at(number: u32, x: i32, y: i32, demand: i32, latest: u32) -> Stop {
     }
 }
 
-// Returns a problem with a pickup at (3, 4), its delivery at (6, 8), and the depot at (0, 0). The longer side
-// is 8, so the scale is 4000 / 8 = 500, the unit 500 * 8 / 400 = 10, and the margin on each side 12 * 10.
+// Returns a problem with a pickup at (3, 4), its delivery at (6, 8), and the depot at (0, 0). The longer side of
+// the map is 8, so the scale is 4000 / 8 = 500. The unit is 500 * 8 / 400 = 10, and each margin is 12 * 10.
 fn one_pair(alloc: Global) -> Result<Problem, Fail> {
     let depot = Stop {
         service: 0,
@@ -32,7 +32,7 @@ fn one_pair(alloc: Global) -> Result<Problem, Fail> {
     Ok(problem)
 }
 
-// Returns whether each of the lines is in the text.
+// Returns whether the text has each of these parts.
 fn has_all(text: &str, lines: &[&str]) -> bool {
     for line in lines {
         if !text.contains(*line) {
@@ -42,7 +42,7 @@ fn has_all(text: &str, lines: &[&str]) -> bool {
     true
 }
 
-// Returns whether a picture has these lines.
+// Returns whether a picture has each of these parts.
 fn shows(picture: &[u8], lines: &[&str]) -> bool {
     match str::from_utf8(picture) {
         Ok(text) => has_all(text, lines),
@@ -67,13 +67,14 @@ fn drawn(
     Ok(shows(picture.as_slice(), lines))
 }
 
-// Returns whether the picture of a plan of one route has these lines.
+// Returns whether the picture of a plan with one route has each of these parts.
 fn draws(alloc: Global, stops: &[u32], verdict: Verdict, lines: &[&str]) -> Result<bool, Fail> {
     let routes = one_route(alloc, stops)?;
     drawn(alloc, &one_pair(alloc)?, routes.as_slice(), verdict, lines)
 }
 
-// Returns whether the picture of one route has this title, or `None` if there is no such route.
+// Returns whether the picture of the route with this number has the title `TITLE`, or `None` if there is no such
+// route.
 fn route_drawn(
     alloc: Global,
     problem: &Problem,
@@ -87,13 +88,14 @@ fn route_drawn(
     }
 }
 
-// Returns whether the picture of the route with this number of the plan [1, 2] has the title.
+// Returns the result of `route_drawn` for the plan with the one route [1, 2].
 fn draws_route(alloc: Global, verdict: Verdict, number: u64) -> Result<Option<bool>, Fail> {
     let routes = one_route(alloc, &[1, 2])?;
     route_drawn(alloc, &one_pair(alloc)?, routes.as_slice(), verdict, number)
 }
 
-/// The vehicle arrives at 5, leaves at 7, arrives at 12, which is 1 too late, leaves at 14 and is back at 24.
+/// Parts of the expected picture. The vehicle arrives at stop 1 at 5 and leaves at 7. It arrives at stop 2 at
+/// 12, which is 1 too late, leaves at 14, and is back at 24.
 const PAIR_LINES: [&str; 10] = [
     ">unplanned 0, vehicles 1, distance 20</text>\n<svg",
     "viewBox='0 0 3240 4240' font-size='10'>\n",
@@ -118,7 +120,7 @@ fn draws_a_pair(rt: HostRuntime) -> Result<(), Fail> {
     Ok(())
 }
 
-/// Stop 7 is unknown, stop 1 appears twice, and stop 2 is in no route.
+/// Parts of the expected picture. Stop 7 is unknown, stop 1 appears twice, and stop 2 is in no route.
 const BROKEN_LINES: [&str; 5] = [
     ">broken rule 2, visited twice, route 1, place 3, stop 1</text>\n",
     ">unserved stops, ringed: 1</text>\n",

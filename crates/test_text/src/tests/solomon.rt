@@ -10,7 +10,7 @@ use plan_types::{Kind, limits};
 use std::alloc::Global;
 use std::test::Fail;
 
-/// The heading of R101, its depot, and its first and its last customer, as they are published.
+/// The heading of R101, its depot, its first customer and its last one, as they are published.
 const PART_OF_R101: &[u8] = b"R101
 
 VEHICLE
@@ -25,14 +25,14 @@ CUST NO.   XCOORD.   YCOORD.   DEMAND   READY TIME   DUE DATE   SERVICE TIME
  100 18 18 17 185 195 10
 ";
 
-/// Two customers, with many forms of blanks, signs, words and line ends. The name is a word of the heading, the
-/// depot has a demand and a service, which are ignored, and most numbers have no customer.
+/// Two customers, with many forms of blanks, signs, words and line ends. The name is a word of the heading. The
+/// depot has a demand and a service, which are ignored. The numbers between the customers are not used.
 const REWRITTEN: &[u8] =
     b" \r\n VEHICLE\r\nvehicle 7\r\n\n\tNumber\n1.0\t+10.\r\nCUSTOMER 5\r\ncUST\r\n0 1 1 7 0 100 9\r\n3\t1 2 0 5 5 0\r\n40000 -1 -2 1000000 0 9 1";
 
 const NO_CUSTOMERS: &[u8] = b"n\nVEHICLE\nNUMBER\n2 10\nCUSTOMER\nCUST\n0 0 0 0 0 9 0\n";
 
-/// Instances, and the expected problems.
+/// Instances, and the expected problem of each.
 const READ: [(&[u8], Counts, &[Spot]); 3] = [
     (
         PART_OF_R101,
@@ -50,7 +50,7 @@ const READ: [(&[u8], Counts, &[Spot]); 3] = [
     (NO_CUSTOMERS, [2, 10, 1, 0], &[]),
 ];
 
-// Returns whether an instance is read as a problem with these values and stops.
+// Returns whether an instance is read as a problem with these counts and stops.
 fn is_read_as(alloc: Global, text: &[u8], figures: Counts, spots: &[Spot]) -> bool {
     match read_solomon(alloc, text) {
         Ok(problem) => {
@@ -69,7 +69,7 @@ fn reads_customers(rt: HostRuntime) {
     }
 }
 
-// Returns the beginning of the depot's window, and the service and the beginning of the window of customer 1.
+// Returns the end of the depot's window, and the service and the beginning of the window of customer 1.
 fn times_of(alloc: Global, text: &[u8]) -> [u32; 3] {
     let Ok(problem) = read_solomon(alloc, text) else {
         return [0; 3];
@@ -87,7 +87,7 @@ fn reads_the_times_of_customers(rt: HostRuntime) {
     assert!(rt; times_of(rt.alloc(), PART_OF_R101) == [230, 10, 161]);
 }
 
-/// Instances with a fault before the depot's line, with its line and its kind.
+/// Instances with a fault in the heading or without a depot, with its line and its kind.
 const HEADING_FAULTS: [(&[u8], u64, ReadFaultKind); 17] = [
     (b"", 1, Truncated),
     (b"\n \n", 3, Truncated),
@@ -112,7 +112,7 @@ const HEADING_FAULTS: [(&[u8], u64, ReadFaultKind); 17] = [
     ),
 ];
 
-/// The lines of customers, after six lines of a heading, with a fault, its line and its kind.
+/// The lines of customers after a heading of six lines, with the line and the kind of their first fault.
 const CUSTOMER_FAULTS: [(&[u8], u64, ReadFaultKind); 15] = [
     (b"0 0 0 0 0 x\n", 7, FieldCount),
     (b"0 0 0 0 0 9 0 0 0\n", 7, FieldCount),

@@ -1,4 +1,4 @@
-//! Solutions.
+//! Solutions, as they are read and written.
 ghost use Rattle.std.specs.Prelude.{IfOk, IsTrue};
 ghost use Rattle.route_sched.specs.Route.{IsPlan};
 
@@ -10,7 +10,7 @@ use std::alloc::{AllocError, Global};
 use std::test::Fail;
 use test_examples::routes_of;
 
-/// The greatest number of customers of a problem.
+/// The greatest number of customers that a problem may have.
 const CUSTOMERS: u32 = limits::MAX_STOP_NUMBER;
 
 // Returns the stops of the routes, each route followed by a 0.
@@ -29,7 +29,8 @@ fn is_read_as(alloc: Global, text: &[u8], stops: &[u32], cost: u64) -> Result<bo
     Ok(solution.cost == cost && stops_of(alloc, &solution.routes)?.as_slice() == stops)
 }
 
-/// Solutions, and their routes and cost. Each route is followed by a 0. Text after the cost line is not read.
+/// Solutions, with the routes and the cost of each. Each route is followed by a 0. Text after the cost line is
+/// not read.
 const READ: [(&[u8], &[u32], u64); 10] = [
     (
         b"Route 1 : 2 1\nroute #2:3\r\n\t\nRoute #3:\nCOST 30\nnot read\nCost x",
@@ -59,7 +60,7 @@ fn reads_solutions(rt: HostRuntime) -> Result<(), Fail> {
     Ok(())
 }
 
-/// Solutions, and the line and the kind of the first fault of each.
+/// Solutions, with the line and the kind of the first fault of each.
 const FAULTS: [(&[u8], u64, SolFaultKind); 22] = [
     (b"", 1, SolFaultKind::NoCost),
     (b"Route #1: 1\n\r\n", 3, SolFaultKind::NoCost),
@@ -75,7 +76,7 @@ const FAULTS: [(&[u8], u64, SolFaultKind); 22] = [
     (b"Cost 18446744073709551616", 1, SolFaultKind::BadNumber),
     (b"Route #1: 4294967296\nRoute", 1, SolFaultKind::BadNumber),
     (b"Route #1: +1\nCost 1", 1, SolFaultKind::BadNumber),
-    // In one line, the number of words is checked before their values.
+    // Within a line, the number of words is checked before their values.
     (b"Cost x y", 1, SolFaultKind::BadLine),
     (b"Cost", 1, SolFaultKind::BadLine),
     // The first wrong line counts, whatever its fault is.
@@ -123,16 +124,16 @@ const DEPOT: Stop = Stop {
     service: 0,
 };
 
-/// The customers of a problem.
+/// A problem: its customers and its fleet.
 #[derive(Clone, Copy)]
 enum Fixture {
     /// Three customers and a fleet of three.
     Three,
-    /// As many customers as possible, all at one place to the right of the depot, and a fleet of this size.
+    /// As many customers as possible, all at (1, 0), and a fleet of this size. The depot is at (0, 0).
     Largest(u32),
 }
 
-// Returns the place and the demand of the customer of this number.
+// Returns the coordinates and the demand of the customer with this number.
 fn spot_of(posed: Fixture, number: u32) -> (i32, i32, i32) {
     match posed {
         Fixture::Largest(_) => (1, 0, 0),
@@ -155,7 +156,7 @@ fn customer_of(posed: Fixture, number: u32) -> Request {
     })
 }
 
-// Returns the fleet, and the number of customers.
+// Returns the fleet and the number of customers.
 fn counts(posed: Fixture) -> (u32, u32) {
     match posed {
         Fixture::Three => (3, 3),
@@ -172,7 +173,7 @@ fn problem_of(alloc: Global, posed: Fixture) -> Result<Problem, Fail> {
     Ok(problem)
 }
 
-// Returns whether a plan passes, so that it may be written.
+// Returns whether a plan passes the audit, so that it may be written.
 fn is_plan(alloc: Global, problem: &Problem, plan: &Plan) -> Result<bool, Fail>
     ensures { IfOk result (λ b. IsTrue b → IsPlan problem.now plan.now.routes) }
 {
@@ -186,7 +187,7 @@ fn is_plan(alloc: Global, problem: &Problem, plan: &Plan) -> Result<bool, Fail>
     }
 }
 
-/// The result of writing a plan.
+/// The expected result of writing a plan: its text, or a refusal with the number of unplanned requests.
 #[derive(Clone, Copy)]
 enum WriteResult<'a> {
     Text(&'a [u8]),
@@ -227,8 +228,8 @@ fn writes_routes(
     writes(alloc, &problem_of(alloc, posed)?, &plan, want)
 }
 
-/// Routes of three customers, each followed by a 0, and the result of writing them. The third vehicle stays
-/// idle.
+/// Routes of the three customers, each followed by a 0, and the result of writing them. The third vehicle is not
+/// used.
 const WRITTEN: [(&[u32], WriteResult); 2] = [
     (
         &[2, 1, 0, 3, 0, 0],
@@ -245,17 +246,18 @@ fn writes_used_routes(rt: HostRuntime) -> Result<(), Fail> {
     Ok(())
 }
 
-/// A solution with the most customers.
+/// A solution with the greatest number of customers.
 #[derive(Clone, Copy)]
 struct Largest {
-    /// Whether each customer has a route of its own, rather than all one route.
+    /// Whether each customer has a route of its own. Otherwise one route has all customers.
     one_route_each: bool,
     fleet: u32,
     text: &'static [Part],
     cost: u64,
 }
 
-/// `Route #1: 1 2 3 ..`, and `Route #1: 1`, `Route #2: 2` and so on, each with the cost.
+/// `Route #1: 1 2 3 ..` in one solution; `Route #1: 1`, `Route #2: 2` and so on in the other. Each ends with its
+/// cost.
 const MOST: [Largest; 2] = [
     Largest {
         one_route_each: false,
@@ -278,7 +280,7 @@ const MOST: [Largest; 2] = [
     },
 ];
 
-// Returns all customers by number, in one route or in routes of their own, each followed by a 0.
+// Returns all customers in order of number, in one route or in a route for each, with a 0 after each route.
 fn all_stops(alloc: Global, one_route_each: bool) -> Result<Vec<u32>, AllocError> {
     let mut stops = Vec::new(alloc);
     for number in 1..=CUSTOMERS {
@@ -316,7 +318,7 @@ fn reads_and_writes_the_most_customers(rt: HostRuntime) -> Result<(), Fail> {
     Ok(())
 }
 
-/// Lines, the text that follows `Cost` and its separator in each, and the word of a cost line.
+/// Lines, with the text that follows `Cost` and its separator in each, and the word if it is a cost line.
 const COST_LINES: [(&[u8], Option<&[u8]>, Option<&[u8]>); 5] = [
     (b"Cost 784", Some(b"784"), Some(b"784")),
     (b"COST\t: 7 ", Some(b" 7 "), Some(b"7")),

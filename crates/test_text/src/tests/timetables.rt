@@ -1,5 +1,5 @@
 //! Timetables of plans that leave requests out, worked out by hand from the coordinates and windows of the
-//! instances. `tests/texts.py` compares those of other plans.
+//! instances. `tests/texts.py` compares the timetables of other plans.
 
 use crate::tests::builders::read_instance;
 use plan_audit::audit_solution;
@@ -13,20 +13,23 @@ use std::test::Fail;
 const TWO_PAIRS: &[u8] =
     b"2 10 1\n0 0 0 0 0 100 0 0 0\n1 1 1 1 0 50 0 0 2\n2 1 1 -1 0 50 0 1 0\n3 2 2 1 0 50 0 0 4\n4 2 2 -1 0 50 0 3 0\n";
 
-/// The first vehicle stays at the depot.
+/// A plan for `TWO_PAIRS` that serves the second pair by the second vehicle. The first vehicle stays at the
+/// depot.
 const SECOND_PAIR: &[u8] = b"Route #1:\nRoute #2: 3 4\nCost 6\n";
 
-/// A pair that is on time and one that no vehicle can serve: stop 3 lies 10 from the depot, and is due at 8.
+/// A pair that a vehicle can serve in time, and one that no vehicle can. Stop 3 is at distance 10 from the
+/// depot, and its service must start by 8.
 const ONE_TOO_FAR: &[u8] =
     b"1 10 1\n0 0 0 0 0 100 0 0 0\n1 3 4 4 0 50 2 0 2\n2 6 8 -4 0 60 2 1 0\n3 0 10 1 0 8 0 0 4\n4 0 10 -1 0 50 0 3 0\n";
 
-/// Route 1 serves the pair that is on time.
+/// A plan for `ONE_TOO_FAR` that serves both stops of the first pair in time.
 const BOTH: &[u8] = b"Route #1: 1 2\nCost 20\n";
 
-/// The vehicle is already late by 2, and stays so if the other pair is inserted after stop 3.
+/// A plan for `ONE_TOO_FAR` whose vehicle is late by 2 at stop 3, also if the other pair is inserted after that
+/// stop.
 const LATE: &[u8] = b"Route #1: 3 4\nCost 20\n";
 
-/// An instance, a solution, the request that it leaves out, the form of the timetable, and its text.
+/// Instances, their solutions, the request that each leaves out, the form of the timetable, and its text.
 const TIMETABLES: [Row; 4] = [
     (
         TWO_PAIRS,
@@ -81,8 +84,10 @@ fn partial_timetable(
     timetable(alloc, &problem, solution, unplanned, form)
 }
 
+/// A row of `TIMETABLES`.
 type Row = (&'static [u8], &'static [u8], u32, Form, &'static str);
 
+// Returns whether the timetable of a row has the expected text.
 fn is_expected(alloc: Global, row: &Row) -> Result<bool, Fail> {
     let (instance, solution, unplanned, form, want) = *row;
     let solution = read_sol(alloc, solution)?;

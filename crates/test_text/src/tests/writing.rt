@@ -1,6 +1,6 @@
 //! Problems written as instances, after requests were withdrawn.
 
-use instance_read::{Format, Layout, read_instance};
+use instance_read::{Format, Layout, Scale, read_instance};
 use instance_text::{WriteFault, write_instance};
 use plan_types::Problem;
 use std::alloc::Global;
@@ -17,7 +17,7 @@ const THREE_PAIRS: &[u8] = b"3 20 7
 6 9 9 -7 0 90 0 3 0
 ";
 
-/// The instance without the second pair, and then without any.
+/// `THREE_PAIRS` without its second pair, as it is written.
 const TWO_PAIRS: &[u8] = b"3 20 1
 0 0 0 0 0 900 0 0 0
 1 -3 4 4 5 50 2 0 2
@@ -26,9 +26,10 @@ const TWO_PAIRS: &[u8] = b"3 20 1
 5 3 3 0 1 91 1 0 4
 ";
 
+/// `THREE_PAIRS` without any pair, as it is written.
 const NO_PAIRS: &[u8] = b"3 20 1\n0 0 0 0 0 900 0 0 0\n";
 
-/// Three customers in Solomon's format. The numbers have gaps, and the depot a demand and a service.
+/// Three customers in Solomon's format. Their numbers have gaps, and the depot has a demand and a service.
 const THREE_SINGLES: &[u8] = b"R101
 
 VEHICLE
@@ -42,7 +43,7 @@ CUST NO.   XCOORD.   YCOORD.   DEMAND   READY TIME   DUE DATE   SERVICE TIME
 100 18 18 17 185 195 10
 ";
 
-/// That instance without its second customer.
+/// `THREE_SINGLES` without its second customer, as it is written.
 const TWO_SINGLES: &[u8] = b"planner
 
 VEHICLE
@@ -57,9 +58,10 @@ CUST NO. XCOORD. YCOORD. DEMAND READY TIME DUE DATE SERVICE TIME
 100 18 18 17 185 195 10
 ";
 
+/// `THREE_SINGLES` without any customer, as it is written: in Li and Lim's format.
 const NO_SINGLES: &[u8] = b"25 200 1\n0 35 35 0 0 230 0 0 0\n";
 
-/// Two of the three customers.
+/// `THREE_CUSTOMERS` without its third customer, as it is written.
 const TWO_CUSTOMERS: &[u8] = b"NAME : planner
 TYPE : CVRP
 DIMENSION : 3
@@ -79,8 +81,8 @@ DEPOT_SECTION
 EOF
 ";
 
-/// Instances, the requests that are withdrawn, and the instance that is written; it is empty if the format
-/// can't express the rest.
+/// Instances, the requests that are withdrawn, and the instance that is then written. It is empty if no format
+/// can express the remaining problem.
 const WRITTEN: [(Layout, &[u8], &[u32], &[u8]); 11] = [
     (Layout::LiLim, THREE_PAIRS, &[3], TWO_PAIRS),
     (Layout::LiLim, THREE_PAIRS, &[5, 3, 1], NO_PAIRS),
@@ -88,11 +90,11 @@ const WRITTEN: [(Layout, &[u8], &[u32], &[u8]); 11] = [
     (Layout::LiLim, NO_PAIRS, &[], NO_PAIRS),
     (Layout::Solomon, THREE_SINGLES, &[4], TWO_SINGLES),
     (Layout::Solomon, TWO_SINGLES, &[], TWO_SINGLES),
-    // Without requests, the text is one in Li and Lim's format.
+    // Without requests, the format is that of Li and Lim.
     (Layout::Solomon, THREE_SINGLES, &[1, 4, 100], NO_SINGLES),
     (Layout::Vrp, THREE_CUSTOMERS, &[3], TWO_CUSTOMERS),
     (Layout::Vrp, TWO_CUSTOMERS, &[], TWO_CUSTOMERS),
-    // A gap in the numbers, and no stop at all.
+    // CVRPLIB's format can't express a gap in the numbers of customers, or a problem without customers.
     (Layout::Vrp, THREE_CUSTOMERS, &[2], b""),
     (Layout::Vrp, THREE_CUSTOMERS, &[1, 2, 3], b""),
 ];
@@ -112,9 +114,13 @@ fn is_written_as(alloc: Global, problem: &Problem, wanted: &[u8]) -> bool {
     }
 }
 
-// Returns whether the problem of an instance is written as this text after these requests are withdrawn.
+// Returns whether the problem of an instance is written as this text after these requests were withdrawn.
 fn is_left_as(alloc: Global, layout: Layout, text: &[u8], names: &[u32], wanted: &[u8]) -> bool {
-    match read_instance(alloc, Format { layout }, text) {
+    let format = Format {
+        layout,
+        scale: Scale::One,
+    };
+    match read_instance(alloc, format, text) {
         Ok(mut problem) => {
             withdraw(&mut problem, names);
             is_written_as(alloc, &problem, wanted)

@@ -19,16 +19,16 @@ loop-attempt-init c =
       seed = ap (λ (w : NextStep). w.seed) c.from_step-words.ensures;
       step = omega (arith, is.made, ap (λ (w : NextStep). w.step) c.from_step-words.ensures);
       most = omega (arith, is.made);
-      going = is.attempt;
+      attempt = is.attempt;
       left =
-          ap (λ k. attempt_steps c.args.problem.now c.args.pins.now.routes c.args.deviation c.args.seed k (attempt_state c.args.step attempt)) none
-          ∙ ap (attempt_steps c.args.problem.now c.args.pins.now.routes c.args.deviation c.args.seed c.args.most) (is.begun c.args.step);
+          ap (λ k. attempt_steps c.args.context.now.problem.now c.args.context.now.pins.now.routes c.args.context.now.deviation c.args.context.now.seed k (attempt_state c.args.step attempt)) none
+          ∙ ap (attempt_steps c.args.context.now.problem.now c.args.context.now.pins.now.routes c.args.context.now.deviation c.args.context.now.seed c.args.most) (is.begun c.args.step);
     }
 
 pub loop-attempt-preserved : goal.loop-attempt-preserved
 loop-attempt-preserved c =
-    let p = c.args.problem.now in
-    let pins = c.args.pins.now.routes in
+    let p = c.args.context.now.problem.now in
+    let pins = c.args.context.now.pins.now.routes in
     let old = c.loop-attempt.attempt in
     let new = c.step.new.self in
     let before = c.loop-attempt.invariant in
@@ -38,19 +38,19 @@ loop-attempt-preserved c =
       seed = ap (λ (w : NextStep). w.seed) c.next_step.ensures.after ∙ before.seed;
       step = omega (arith, before.step, ap (λ (w : NextStep). w.step) c.next_step.ensures.after, c.in_ok-step.ensures.made);
       most = omega (arith, within, c.in_ok-step.ensures.made);
-      going = c.in_ok-step.ensures.attempt;
+      attempt = c.in_ok-step.ensures.attempt;
       left =
-          ap (λ k. attempt_steps p pins c.args.deviation c.args.seed (c.args.most - k) (attempt_state c.args.step new)) c.in_ok-step.ensures.made
-          ∙ step_on p pins c.args.deviation c.args.seed c.args.most old.made (attempt_state c.args.step old) (attempt_state c.args.step new)
-          (attempt_steps p pins c.args.deviation c.args.seed c.args.most
+          ap (λ k. attempt_steps p pins c.args.context.now.deviation c.args.context.now.seed (c.args.most - k) (attempt_state c.args.step new)) c.in_ok-step.ensures.made
+          ∙ step_on p pins c.args.context.now.deviation c.args.context.now.seed c.args.most old.made (attempt_state c.args.step old) (attempt_state c.args.step new)
+          (attempt_steps p pins c.args.context.now.deviation c.args.context.now.seed c.args.most
           (begun p c.args.plan.now.routes c.args.step)) old.annealing.search_state.best c.next_step.result c.loop-attempt.words.seed c.loop-attempt.words.step before.left within
-          before.going.going.search_state.keeps.best lacks c.next_step.ensures.words before.seed before.step (c.in_ok-step.ensures.tried c.args.step);
+          before.attempt.annealing.search_state.keeps.best lacks c.next_step.ensures.words before.seed before.step (c.in_ok-step.ensures.tried c.args.step);
     }
 
 pub returns : goal.returns
 returns c =
-    let p = c.args.problem.now in
-    let pins = c.args.pins.now.routes in
+    let p = c.args.context.now.problem.now in
+    let pins = c.args.context.now.pins.now.routes in
     let last = c.loop-attempt.attempt in
     let is = c.loop-attempt.invariant in
     let off : last.made < c.args.most → (last.annealing.search_state.best.unplanned == 0) ≡ true =
@@ -59,9 +59,9 @@ returns c =
       | else-loop-attempt-test w ↦ absurd (omega (arith, some, w.loop-attempt-test.false))
     ] in
     let same =
-    step_off p pins c.args.deviation c.args.seed c.args.most last.made (attempt_state c.args.step last)
-    (attempt_steps p pins c.args.deviation c.args.seed c.args.most (begun p c.args.plan.now.routes c.args.step))
-    last.annealing.search_state.best is.left is.going.going.search_state.keeps.best off in
+    step_off p pins c.args.context.now.deviation c.args.context.now.seed c.args.most last.made (attempt_state c.args.step last)
+    (attempt_steps p pins c.args.context.now.deviation c.args.context.now.seed c.args.most (begun p c.args.plan.now.routes c.args.step))
+    last.annealing.search_state.best is.left is.attempt.annealing.search_state.keeps.best off in
     record {
       tried = record {
         plan = ap (λ (plan : Plan). plan.routes) c.into_best.ensures ∙ ap (λ (t : AttemptState). t.incumbent) same;

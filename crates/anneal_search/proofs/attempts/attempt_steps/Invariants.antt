@@ -6,12 +6,12 @@ use Rattle.anneal_search.proofs.attempts.attempt_steps.Given as goal
 
 abbrev pub invariant-loop-attempt : goal.invariant-loop-attempt
 invariant-loop-attempt l = record {
-  seed : l.words.seed ≡ l.seed;
+  seed : l.words.seed ≡ l.context.seed;
   step : l.words.step ≡ l.step + l.attempt.made;
   most : l.attempt.made ≤ l.most;
-  going : IsAttempt l.problem l.pins.routes l.attempt;
-  left : attempt_steps l.problem l.pins.routes l.deviation l.seed (l.most - l.attempt.made) (attempt_state l.step l.attempt)
-      ≡ attempt_steps l.problem l.pins.routes l.deviation l.seed l.most (begun l.problem l.plan.routes l.step);
+  attempt : IsAttempt l.context.problem.now l.context.pins.now.routes l.attempt;
+  left : attempt_steps l.context.problem.now l.context.pins.now.routes l.context.deviation l.context.seed (l.most - l.attempt.made) (attempt_state l.step l.attempt)
+      ≡ attempt_steps l.context.problem.now l.context.pins.now.routes l.context.deviation l.context.seed l.most (begun l.context.problem.now l.plan.routes l.step);
 }
 
 abbrev pub decreases-loop-attempt : goal.decreases-loop-attempt

@@ -12,8 +12,8 @@ use Rattle.anneal_search.proofs.candidates.make.Goals as goal
 
 pub returns-in_default-clause-made : goal.returns-in_default-clause-made
 returns-in_default-clause-made c =
-    let p = c.args.problem.now in
-    let pins = c.args.pins.now.routes in
+    let p = c.args.context.now.problem.now in
+    let pins = c.args.context.now.pins.now.routes in
     let routes = draft_of c.args.draft.now in
     let words = c.args.words.now in
     let none : is_some c.in_ok-missing.field-0 ≡ false = search rules in
@@ -22,15 +22,15 @@ returns-in_default-clause-made c =
 
 pub returns-clause-made : goal.returns-clause-made
 returns-clause-made c =
-    let p = c.args.problem.now in
-    let pins = c.args.pins.now.routes in
+    let p = c.args.context.now.problem.now in
+    let pins = c.args.context.now.pins.now.routes in
     let routes = draft_of c.args.draft.now in
     let left = draft_of c.remove_requests.new.draft in
     let words = c.args.words.now in
     let some : is_some c.in_ok-missing.field-0 ≡ true = search rules in
-    let missing : c.in-Some.missing.items ≡ unplanned_names c.args.problem.now (draft_of c.remove_requests.new.draft) = search rules in
-    let order : c.in_ok-order.order.items ≡ ordered c.args.problem.now (slice_index c.args.words.now 2) c.in-Some.missing.items = search rules in
-    let more : draft_of c.place_all.new.draft ≡ placed_all c.args.problem.now c.args.pins.now.routes (draft_of c.remove_requests.new.draft) c.in_ok-order.order.items = search rules in
+    let missing : c.in-Some.missing.items ≡ unplanned_names c.args.context.now.problem.now (draft_of c.remove_requests.new.draft) = search rules in
+    let order : c.in_ok-order.order.items ≡ ordered c.args.context.now.problem.now (slice_index c.args.words.now 2) c.in-Some.missing.items = search rules in
+    let more : draft_of c.place_all.new.draft ≡ placed_all c.args.context.now.problem.now c.args.context.now.pins.now.routes (draft_of c.remove_requests.new.draft) c.in_ok-order.order.items = search rules in
     subst (λ answer. IsMade answer true c.args.draft.now c.place_all.new.draft) (candidate_is p pins routes words)
     (removed_and_more (recreated p pins (slice_index words 2)) (ruined p pins routes words)
     (is_some c.in_ok-missing.field-0) c.args.draft.now c.remove_requests.new.draft c.place_all.new.draft c.in_ok-missing.ensures.taken some
@@ -38,12 +38,12 @@ returns-clause-made c =
 
 pub returns-clause-left : goal.returns-clause-left
 returns-clause-left c =
-    let p = c.args.problem.now in
-    let pins = c.args.pins.now.routes in
+    let p = c.args.context.now.problem.now in
+    let pins = c.args.context.now.pins.now.routes in
     let left = draft_of c.remove_requests.new.draft in
     let words = c.args.words.now in
-    let missing : c.in-Some.missing.items ≡ unplanned_names c.args.problem.now (draft_of c.remove_requests.new.draft) = search rules in
-    let order : c.in_ok-order.order.items ≡ ordered c.args.problem.now (slice_index c.args.words.now 2) c.in-Some.missing.items = search rules in
-    let more : draft_of c.place_all.new.draft ≡ placed_all c.args.problem.now c.args.pins.now.routes (draft_of c.remove_requests.new.draft) c.in_ok-order.order.items = search rules in
+    let missing : c.in-Some.missing.items ≡ unplanned_names c.args.context.now.problem.now (draft_of c.remove_requests.new.draft) = search rules in
+    let order : c.in_ok-order.order.items ≡ ordered c.args.context.now.problem.now (slice_index c.args.words.now 2) c.in-Some.missing.items = search rules in
+    let more : draft_of c.place_all.new.draft ≡ placed_all c.args.context.now.problem.now c.args.context.now.pins.now.routes (draft_of c.remove_requests.new.draft) c.in_ok-order.order.items = search rules in
     held p pins (slice_index words 2) left (draft_of c.place_all.new.draft) c.in-Some.missing.items c.requires.draft.valid missing
     (more ∙ ap (placed_all p pins left) (order ∙ ap (ordered p (slice_index words 2)) missing))

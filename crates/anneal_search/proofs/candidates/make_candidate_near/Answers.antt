@@ -15,8 +15,8 @@ use Rattle.anneal_search.proofs.candidates.make_candidate_near.Goals as goal
 
 pub returns-in_default-clause-made : goal.returns-in_default-clause-made
 returns-in_default-clause-made c =
-    let p = c.args.problem.now in
-    let pins = c.args.pins.now.routes in
+    let p = c.args.context.now.problem.now in
+    let pins = c.args.context.now.pins.now.routes in
     let routes = draft_of c.args.draft.now in
     let words = c.args.words.now in
     let none : is_some c.in_ok-missing.field-0 ≡ false = search rules in
@@ -26,14 +26,14 @@ returns-in_default-clause-made c =
 
 pub returns-clause-made : goal.returns-clause-made
 returns-clause-made c =
-    let p = c.args.problem.now in
-    let pins = c.args.pins.now.routes in
+    let p = c.args.context.now.problem.now in
+    let pins = c.args.context.now.pins.now.routes in
     let routes = draft_of c.args.draft.now in
     let left = draft_of c.remove_requests.new.draft in
     let words = c.args.words.now in
     let some : is_some c.in_ok-missing.field-0 ≡ true = search rules in
-    let missing : c.in-Some.missing.items ≡ unplanned_names c.args.problem.now (draft_of c.remove_requests.new.draft) = search rules in
-    let order : c.deref-2.result.now ≡ ordered c.args.problem.now (slice_index c.args.words.now 2) c.in-Some.missing.items = search rules in
+    let missing : c.in-Some.missing.items ≡ unplanned_names c.args.context.now.problem.now (draft_of c.remove_requests.new.draft) = search rules in
+    let order : c.deref-2.result.now ≡ ordered c.args.context.now.problem.now (slice_index c.args.words.now 2) c.in-Some.missing.items = search rules in
     subst (λ answer. IfOk c.place_all_if_near.result
     (λ made. IsMadeIfNear p c.args.near.now.deviation c.args.near.now.best.now answer made c.args.draft.now c.place_all_if_near.new.draft))
     (candidate_is p pins routes words)

@@ -12,39 +12,39 @@ pub returns-then-is_empty-clause-taken : goal.returns-then-is_empty-clause-taken
 returns-then-is_empty-clause-taken c =
     let none : length c.in_ok-names.names.items ≡ 0 = search rules in
     subst (λ answer. IsMade answer false c.args.draft.now c.args.draft.now)
-    (sym (none_ruined c.args.problem.now c.args.pins.now.routes (draft_of c.args.draft.now) c.args.words.now c.in_ok-names.names.items c.in_ok-names.ensures.names none)) (refl, refl)
+    (sym (none_ruined c.args.context.now.problem.now c.args.context.now.pins.now.routes (draft_of c.args.draft.now) c.args.words.now c.in_ok-names.names.items c.in_ok-names.ensures.names none)) (refl, refl)
 
 pub returns-then-not-branch-clause-taken : goal.returns-then-not-branch-clause-taken
 returns-then-not-branch-clause-taken c =
-    let p = c.args.problem.now in
-    let pins = c.args.pins.now.routes in
+    let p = c.args.context.now.problem.now in
+    let pins = c.args.context.now.pins.now.routes in
     let routes = draft_of c.args.draft.now in
     let names = c.in_ok-names.names.items in
     let some : (length c.in_ok-names.names.items == 0) ≡ false = search rules in
-    let made : IsMade (removed c.args.problem.now c.args.pins.now.routes
+    let made : IsMade (removed c.args.context.now.problem.now c.args.context.now.pins.now.routes
     (draft_of c.args.draft.now) c.in_ok-names.names.items) c.in_ok-remove.field-0 c.args.draft.now c.remove.new.self = search rules in
     subst (λ answer. IsMade answer false c.args.draft.now c.remove.new.self) (sym (some_ruined p pins routes c.args.words.now names c.in_ok-names.ensures.names some))
     (subst (λ done. IsMade (removed p pins routes names) done c.args.draft.now c.remove.new.self) c.if-not-branch.true made)
 
 pub returns-clause-taken : goal.returns-clause-taken
 returns-clause-taken c =
-    let p = c.args.problem.now in
-    let pins = c.args.pins.now.routes in
+    let p = c.args.context.now.problem.now in
+    let pins = c.args.context.now.pins.now.routes in
     let routes = draft_of c.args.draft.now in
     let names = c.in_ok-names.names.items in
     let some : (length c.in_ok-names.names.items == 0) ≡ false = search rules in
-    let made : IsMade (removed c.args.problem.now c.args.pins.now.routes
+    let made : IsMade (removed c.args.context.now.problem.now c.args.context.now.pins.now.routes
     (draft_of c.args.draft.now) c.in_ok-names.names.items) c.in_ok-remove.field-0 c.args.draft.now c.remove.new.self = search rules in
     subst (λ answer. IsMade answer true c.args.draft.now c.remove.new.self) (sym (some_ruined p pins routes c.args.words.now names c.in_ok-names.ensures.names some))
     (subst (λ done. IsMade (removed p pins routes names) done c.args.draft.now c.remove.new.self) c.if-not-branch.false made)
 
 pub returns-clause-missing : goal.returns-clause-missing
 returns-clause-missing c =
-    let p = c.args.problem.now in
-    let pins = c.args.pins.now.routes in
+    let p = c.args.context.now.problem.now in
+    let pins = c.args.context.now.pins.now.routes in
     let routes = draft_of c.args.draft.now in
     let names = c.in_ok-names.names.items in
-    let made : IsMade (removed c.args.problem.now c.args.pins.now.routes
+    let made : IsMade (removed c.args.context.now.problem.now c.args.context.now.pins.now.routes
     (draft_of c.args.draft.now) c.in_ok-names.names.items) c.in_ok-remove.field-0 c.args.draft.now c.remove.new.self = search rules in
     let all : c.in_ok-missing.missing.items ≡ with_names c.args.lists.now.unplanned.items c.in_ok-names.names.items = search rules in
     all ∙ (ap (λ before. with_names before names) c.requires.lists.unplanned

@@ -6,6 +6,6 @@ use Rattle.anneal_search.proofs.routes_by_nearest_stops.scan_nearest_stops.Given
 
 abbrev pub invariant-loop-index : goal.invariant-loop-index
 invariant-loop-index l = record {
-  met : HaveMet l.problem l.center (draft_of l.draft) l.front l.index l.nears.items;
+  met : HaveMet l.problem l.center (draft_of l.draft) l.nearest l.index l.nears.items;
   few : length l.nears.items ≤ l.count;
 }

@@ -7,9 +7,9 @@ use Rattle.anneal_search.proofs.search.continue_annealing.Given as goal
 
 abbrev pub invariant-loop-done : goal.invariant-loop-done
 invariant-loop-done l = record {
-  seed : l.words.seed ≡ l.seed;
+  seed : l.words.seed ≡ l.context.seed;
   step : l.words.step ≡ l.step + l.done;
-  going : IsAnnealing l.problem l.pins.routes l.annealing;
-  left : anneal_steps l.problem l.pins.routes l.deviation l.seed (l.step + l.done) (l.count - l.done) (search_plans_of l.annealing.search_state)
-      ≡ anneal_steps l.problem l.pins.routes l.deviation l.seed l.step l.count (search_plans_of l.fn.search_state);
+  annealing : IsAnnealing l.context.problem.now l.context.pins.now.routes l.annealing;
+  left : anneal_steps l.context.problem.now l.context.pins.now.routes l.context.deviation l.context.seed (l.step + l.done) (l.count - l.done) (search_plans_of l.annealing.search_state)
+      ≡ anneal_steps l.context.problem.now l.context.pins.now.routes l.context.deviation l.context.seed l.step l.count (search_plans_of l.fn.search_state);
 }

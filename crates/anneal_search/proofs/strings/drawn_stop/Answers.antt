@@ -1,6 +1,6 @@
 -- The drawn stop is a stop of the problem, whether it is the only stop of its request, its pickup or its
 -- delivery.
-use Rattle.anneal_search.proofs.StopLemmas.{stop_known}
+use Rattle.move_ops.proofs.StopNumberLemmas.{stop_known}
 use Rattle.anneal_search.proofs.strings.drawn_stop.Goals as goal
 
 pub returns-then-rest-clause-known : goal.returns-then-rest-clause-known

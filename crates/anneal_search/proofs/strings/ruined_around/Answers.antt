@@ -10,7 +10,7 @@ pub strings_of-requires-clause-places : goal.strings_of-requires-clause-places
 strings_of-requires-clause-places c =
     let routes = draft_of c.args.draft.now in
     subst (All (IsInRoute routes)) (sym (c.deref.ensures.value
-    ∙ c.in_ok-nears.ensures.nears)) (routes_in_route c.args.problem.now c.args.center.now routes c.route_count-count.result)
+    ∙ c.in_ok-nears.ensures.nears)) (routes_in_route c.args.context.now.problem.now c.args.center.now routes c.route_count-count.result)
 
 pub movable_of-requires-clause-planned : goal.movable_of-requires-clause-planned
 movable_of-requires-clause-planned c =

@@ -12,7 +12,7 @@ pub loop-index-preserved : goal.loop-index-preserved
 loop-index-preserved c =
     let routes = draft_of c.args.draft.now in
     let below = c.loop-index-test.true in
-    let front = c.used_len-index-end.ensures.within in
+    let in_range = c.used_len-index-end.ensures.within in
     let within : c.loop-index.index < length routes = omega arith in
     let long : length c.route-route.result.now ≡ length (route_of routes (c.loop-index.index + 1)) = ap length c.route-route.ensures in
     let more = stops_more routes c.loop-index.index c.loop-index.stops (length (concat routes)) within c.loop-index.invariant.stops in

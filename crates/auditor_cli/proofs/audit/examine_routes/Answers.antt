@@ -1,4 +1,4 @@
--- The text that was built is the one of the definition.
+-- The text that was built is `routes_text` of the solution.
 use Rattle.std.proofs.Common.{◌∙◌, subst}
 use Rattle.std.specs.Prelude.{IfOk}
 use Rattle.auditor_cli.specs.Examination.{AreExaminedForRoutes}

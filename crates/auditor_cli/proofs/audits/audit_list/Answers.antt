@@ -1,4 +1,4 @@
--- The case that the list can't be opened.
+-- If the list can't be opened, the line that says so is the whole output.
 use Rattle.std.proofs.Common.{[], ap, subst, Err}
 use Rattle.std.specs.IoError.{error_kind}
 use Rattle.std.proofs.lemmas.Result.{IfOk-weaker}

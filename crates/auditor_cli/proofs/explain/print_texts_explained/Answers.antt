@@ -1,4 +1,4 @@
--- The explanation that was made is printed.
+-- The explanation that is printed is the one that `explain` returns.
 use Rattle.std.proofs.lemmas.Result.{IfOk-weaker}
 use Rattle.auditor_cli.proofs.explain.print_texts_explained.Goals as goal
 

@@ -1,4 +1,4 @@
--- Routes audited with some printed cost have the verdict of the same routes with their true cost.
+-- The verdict on the routes only is the verdict on the routes with their true cost.
 use Rattle.std.proofs.Common.{true}
 use Rattle.auditor_cli.proofs.ExaminationLemmas.{has_verdict}
 use Rattle.auditor_cli.proofs.explain.routes_distance.Goals as goal

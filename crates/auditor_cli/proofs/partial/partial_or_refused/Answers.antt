@@ -1,4 +1,4 @@
--- The routes that were read form a partial plan.
+-- A solution that only lacks its cost line, and whose routes form a partial plan, is a partial plan.
 use Rattle.std.proofs.Common.{rules}
 use Rattle.auditor_cli.proofs.partial.partial_or_refused.Goals as goal
 

@@ -1,4 +1,4 @@
--- A subcommand prints its result in two parts.
+-- In each case of the match, `Does` is what the function of the subcommand promises.
 use Rattle.auditor_cli.proofs.program.dispatch.Goals as goal
 
 pub returns-in-Audit-clause-does : goal.returns-in-Audit-clause-does

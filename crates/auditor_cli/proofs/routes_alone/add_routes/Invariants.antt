@@ -1,4 +1,4 @@
--- The lines so far and the remaining ones make up the routes of the text.
+-- The text so far, followed by the remaining lines before the cost line, is the whole text.
 use Rattle.std.proofs.Common.{◌≡◌, ◌++◌}
 use Rattle.std.specs.List.{flat_map}
 use Rattle.text_lines.specs.Lines.{lines_of}

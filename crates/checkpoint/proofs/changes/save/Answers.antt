@@ -3,7 +3,7 @@ use Rattle.std.proofs.Common.{take, refl, rules}
 use Rattle.state_codec.specs.Bytes.{state_bytes}
 use Rattle.state_codec.specs.declared.version.Version.TheVariants.{Two}
 use Rattle.checkpoint.specs.Holds.{journal}
-use Rattle.checkpoint.proofs.Fresh.{saved}
+use Rattle.checkpoint.proofs.NewSnapshots.{saved}
 use Rattle.checkpoint.proofs.changes.save.Goals as goal
 
 pub returns-in-Ok-clause-changes : goal.returns-in-Ok-clause-changes

@@ -4,7 +4,7 @@ use Rattle.std.proofs.Common.{◌+◌, ◌∙◌, arith}
 use Rattle.sector_disk.specs.Throughout.{weakened}
 use Rattle.sector_disk.specs.CommitLaws.{commits}
 use Rattle.checkpoint.specs.DurableWrites.{IsInDurableWrite}
-use Rattle.checkpoint.proofs.Extends.{in_record}
+use Rattle.checkpoint.proofs.RecordCalls.{in_record}
 use Rattle.checkpoint.proofs.durable_writes.extend.Goals as goal
 
 pub returns-clause-commits : goal.returns-clause-commits

@@ -3,9 +3,9 @@ use Rattle.std.proofs.Common.{◌≡◌, ℕ, List, [], take, sym, subst, ◌∙
 use Rattle.state_codec.specs.declared.version.Version.TheVariants.{Two}
 use Rattle.state_codec.specs.Bytes.{state_bytes}
 use Rattle.checkpoint.specs.Stores.{HasStored}
-use Rattle.checkpoint.specs.WrittenImages.{cleared, first_header, with_both, with_state, to_whole_sectors}
+use Rattle.checkpoint.specs.WrittenImages.{with_zeros, first_header, with_both, with_state, to_whole_sectors}
 use Rattle.checkpoint.specs.Formatting.{FormatsStore}
-use Rattle.checkpoint.proofs.Fresh.{new_holds, makes_by}
+use Rattle.checkpoint.proofs.NewSnapshots.{new_holds, makes_by}
 use Rattle.checkpoint.proofs.formatting.format_with.Goals as goal
 
 pub returns-in-Ok : goal.returns-in-Ok
@@ -14,7 +14,7 @@ returns-in-Ok g c =
     let start = c.args.device.now in
     let end = c.make_store.new.device in
     let state = c.args.state.now in
-    let clear = cleared (d.seen start) in
+    let clear = with_zeros (d.seen start) in
     let stored : List ℕ → Type 0 = HasStored 1 (take c.in-Ok.snapshot.size c.deref.result.now) [] in
     let is : take c.in-Ok.snapshot.size c.deref.result.now ≡ state_bytes Two state =
     subst (λ (b : List ℕ). take c.in-Ok.snapshot.size b ≡ state_bytes Two state) (sym c.deref.ensures.value) c.in-Ok.ensures.is in

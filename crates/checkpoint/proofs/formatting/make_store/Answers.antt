@@ -1,8 +1,8 @@
 -- The store with this snapshot is created, unless the device is too small, memory runs out or a call fails.
-use Rattle.std.proofs.Common.{rules, ◌<◌, [], take, sym, subst, arith}
+use Rattle.std.proofs.Common.{rules, [], take, sym, subst, arith}
 use Rattle.checkpoint.specs.DurableWrites.{IsZeros}
 use Rattle.checkpoint.specs.Stores.{HasStored}
-use Rattle.checkpoint.proofs.Fresh.{formats}
+use Rattle.checkpoint.proofs.NewSnapshots.{formats}
 use Rattle.checkpoint.proofs.formatting.make_store.Goals as goal
 
 pub write_store-requires-clause-zeros : goal.write_store-requires-clause-zeros

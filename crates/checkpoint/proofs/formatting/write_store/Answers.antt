@@ -4,7 +4,7 @@ use Rattle.sector_disk.specs.Image.{written}
 use Rattle.sector_disk.specs.Sectors.{Only}
 use Rattle.sector_disk.specs.Throughout.{joined, weakened}
 use Rattle.checkpoint.specs.DurableWrites.{IsInDurableWrite, IsInSnapshot}
-use Rattle.checkpoint.proofs.Cleared.{clears, length_cleared, front_zeros}
+use Rattle.checkpoint.proofs.BlankPrefixes.{clears, length_cleared, prefix_zeros}
 use Rattle.checkpoint.proofs.NewStore.{IsMaking, in_zeros, in_snapshot}
 use Rattle.checkpoint.specs.WrittenImages.{first_header, with_both}
 use Rattle.checkpoint.proofs.formatting.write_store.Goals as goal
@@ -33,15 +33,15 @@ returns-clause-moments g c honest =
     let size = g.met.D.Sectors.image_size start (d.seen start) from (g.met.D.Sectors.reads_possible start from) in
     let zeros = c.args.zeros.now in
     let is = c.requires.zeros in
-    let front = clears 132096 zeros (d.seen start) is refl (omega (arith, size, c.requires.snapshot.room)) in
+    let prefix = clears 132096 zeros (d.seen start) is refl (omega (arith, size, c.requires.snapshot.room)) in
     let long = length_cleared 132096 zeros (d.seen start) is refl (omega (arith, size, c.requires.snapshot.room)) in
     let all = IsMaking c.args.bytes.now c.args.size (d.calls start) in
     let first = weakened d.clock d.possible_since start c.write_and_sync.new.device (IsInDurableWrite 0 zeros (d.possible start) (d.seen start) (d.calls start)) all
-    (in_zeros c.args.bytes.now c.args.size zeros (d.seen start) front (d.calls start) (d.possible start))
+    (in_zeros c.args.bytes.now c.args.size zeros (d.seen start) prefix (d.calls start) (d.possible start))
     (c.write_and_sync.ensures.moments mid) in
     let second = weakened d.clock d.possible_since c.write_and_sync.new.device c.write_snapshot.new.device
     (IsInSnapshot (first_header c.args.size) c.args.bytes.now (d.possible c.write_and_sync.new.device) (d.seen c.write_and_sync.new.device) (d.calls c.write_and_sync.new.device)) all
-    (in_snapshot c.args.bytes.now c.args.size zeros (d.seen start) front
+    (in_snapshot c.args.bytes.now c.args.size zeros (d.seen start) prefix
     (d.calls start) c.requires.snapshot.saved.whole c.requires.snapshot.saved.fits c.requires.snapshot.saved.some c.requires.snapshot.saved.long
     (omega (arith, long, size, c.requires.snapshot.room))
     (d.possible c.write_and_sync.new.device) (d.seen c.write_and_sync.new.device) (d.calls c.write_and_sync.new.device) c.in_ok-write_and_sync.ensures.called.finished (c.in_ok-write_and_sync.ensures.seen mid) (c.in_ok-write_and_sync.ensures.durable mid))
@@ -54,5 +54,5 @@ returns-clause-durable g c honest =
     let mid = c.write_snapshot.ensures.called.honest_before honest in
     let end = d.possible c.write_snapshot.new.device in
     subst (λ (image : List ℕ). OnOk c.write_snapshot.result (Only (with_both (first_header c.args.size) c.args.bytes.now image) end))
-    (c.in_ok-write_and_sync.ensures.seen mid ∙ ap (λ (zeros : List ℕ). written 0 zeros (d.seen c.args.device.now)) (front_zeros c.args.zeros.now c.requires.zeros))
+    (c.in_ok-write_and_sync.ensures.seen mid ∙ ap (λ (zeros : List ℕ). written 0 zeros (d.seen c.args.device.now)) (prefix_zeros c.args.zeros.now c.requires.zeros))
     (c.write_snapshot.ensures.durable honest)

@@ -1,6 +1,6 @@
--- The bytes that reads returned are the front of the image, so their warnings are the image's.
+-- The bytes that reads returned are the prefix of the image, so their warnings are the image's.
 use Rattle.std.proofs.Common.{ℕ, List, sym, subst}
-use Rattle.checkpoint.specs.Reads.{IsImageFront}
+use Rattle.checkpoint.specs.Reads.{IsImagePrefix}
 use Rattle.checkpoint.proofs.integrity.check_integrity.Goals as goal
 
 pub returns-in-Ok-clause-found : goal.returns-in-Ok-clause-found
@@ -11,6 +11,6 @@ returns-in-Ok-clause-found g c honest =
       header = c.in-Ok.opened.header;
       counts = found.1;
       are = c.warnings_in.ensures (d.seen start)
-          (subst (λ (n : ℕ). IsImageFront n c.deref.result.now (d.seen start)) (sym c.len-sectors.ensures)
-          (subst (λ (f : List ℕ). IsImageFront (d.len start) f (d.seen start)) (sym c.deref.ensures.value) found.0));
+          (subst (λ (n : ℕ). IsImagePrefix n c.deref.result.now (d.seen start)) (sym c.len-sectors.ensures)
+          (subst (λ (f : List ℕ). IsImagePrefix (d.len start) f (d.seen start)) (sym c.deref.ensures.value) found.0));
     }

@@ -5,4 +5,4 @@ use Rattle.checkpoint.specs.Integrity.{is_blank, IsRecordAt}
 use Rattle.checkpoint.proofs.integrity.has_damaged_record.Given as goal
 
 abbrev pub invariant-loop-index : goal.invariant-loop-index
-invariant-loop-index l = (k : ℕ) → k < l.index → is_blank (sector (2 + k) l.front) ≡ false → ¬ (¬ IsRecordAt k (sector (2 + k) l.front))
+invariant-loop-index l = (k : ℕ) → k < l.index → is_blank (sector (2 + k) l.prefix) ≡ false → ¬ (¬ IsRecordAt k (sector (2 + k) l.prefix))

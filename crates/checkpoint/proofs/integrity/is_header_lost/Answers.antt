@@ -3,7 +3,7 @@
 use Rattle.std.proofs.Common.{◌∙◌, ap, arith}
 use Rattle.checkpoint.specs.Integrity.{is_blank}
 use Rattle.checkpoint.proofs.IntegrityLemmas.{lost_where_filled, lost_where_old, not_lost}
-use Rattle.checkpoint.proofs.Heads.{in_front}
+use Rattle.checkpoint.proofs.HeaderLemmas.{sector_in_prefix}
 use Rattle.checkpoint.proofs.integrity.is_header_lost.Goals as goal
 
 pub returns-in-Some : goal.returns-in-Some
@@ -15,4 +15,4 @@ returns-then-header-ne1 c image whole = lost_where_old image c.args.header (c.in
 pub returns-else-header-ne1 : goal.returns-else-header-ne1
 returns-else-header-ne1 c image whole =
     lost_where_filled image c.args.header (c.in-None.ensures.valid image whole) (omega (arith, c.if-header-ne1.false)) c.is_blank.result
-    (c.is_blank.ensures ∙ ap is_blank (c.sector_at.ensures ∙ in_front c.args.sectors c.args.front.now image whole 0 (omega arith)))
+    (c.is_blank.ensures ∙ ap is_blank (c.sector_at.ensures ∙ sector_in_prefix c.args.sectors c.args.prefix.now image whole 0 (omega arith)))

@@ -1,5 +1,5 @@
 -- Every image holds a state or has a fault.
-use Rattle.checkpoint.proofs.Decided.{decided}
+use Rattle.checkpoint.proofs.Decidability.{decided}
 use Rattle.checkpoint.proofs.laws.images_hold_a_state_or_have_a_fault.Goals as goal
 
 pub returns : goal.returns

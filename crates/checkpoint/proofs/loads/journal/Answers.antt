@@ -12,7 +12,7 @@ returns-in-Some-clause-found c =
     record {
       commands = c.in-Ok.commands.items;
       records = c.in-Ok.ensures;
-      why = inl (subst (λ (n : ℕ). HasStrayFrom n c.args.front.now c.args.sequence) counted c.in-Some.ensures);
+      why = inl (subst (λ (n : ℕ). HasStrayFrom n c.args.prefix.now c.args.sequence) counted c.in-Some.ensures);
     }
 
 pub returns-then-have_valid_numbers-clause-found : goal.returns-then-have_valid_numbers-clause-found
@@ -20,7 +20,7 @@ returns-then-have_valid_numbers-clause-found c =
     let counted : c.len.result ≡ length c.in-Ok.commands.items = omega (arith, c.len.ensures, c.in-Ok.commands.ok.0) in
     record {
       records = c.in-Ok.ensures;
-      clear = subst (λ (n : ℕ). IsClearFrom n c.args.front.now c.args.sequence) counted c.in-None.ensures;
+      clear = subst (λ (n : ℕ). IsClearFrom n c.args.prefix.now c.args.sequence) counted c.in-None.ensures;
       numbers = subst (λ (l : List Command). HaveValidNumbers c.args.version c.args.state.now l) c.deref.ensures.value (c.have_valid_numbers.ensures.0 c.if-have_valid_numbers.true);
     }
 

@@ -9,8 +9,8 @@ returns-clause-loaded g c =
     let start = c.args.device.now in record {
       small = search rules;
       fails = search rules;
-      standing = search rules;
+      well_formed = search rules;
       found = λ honest. c.interpret.ensures.found (d.len start) (d.seen start)
-          (subst (λ (b : List ℕ). HasParts c.args.version (d.len start) (d.seen start) c.in-Ok.parts.opened.header c.in-Ok.parts.opened.front.items b)
+          (subst (λ (b : List ℕ). HasParts c.args.version (d.len start) (d.seen start) c.in-Ok.parts.opened.header c.in-Ok.parts.opened.prefix.items b)
           (sym c.deref-2.ensures.value) (c.in-Ok.ensures.found honest));
     }

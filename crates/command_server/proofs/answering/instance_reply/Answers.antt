@@ -2,7 +2,6 @@
 -- or not.
 use Rattle.std.proofs.Common.{rules, ◌≡◌, ◌++◌, Err, refl, subst, sym}
 use Rattle.std.proofs.lemmas.Result.{err_from_is_err_and}
-use Rattle.command_types.specs.declared.refusals.Refusal.TheVariants as core
 use Rattle.command_text.specs.Answering.{instance_reply, unless_broken}
 use Rattle.command_text.specs.Answers.{answer_text, line}
 use Rattle.command_text.specs.declared.answers.Answer.TheVariants as answer
@@ -11,13 +10,13 @@ use Rattle.instance_text.specs.Texts.{instance_text}
 use Rattle.instance_text.specs.declared.faults.WriteFault.TheVariants as instance_fault
 use Rattle.command_server.specs.ServeContract.{Reports}
 use Rattle.command_server.specs.ServeSteps.{silent}
-use Rattle.command_server.proofs.ReplyLemmas.{job_refuses, job_reported, job_unmade, sayable_is, sayable_ok, sayable_unmade, tells_none, unsayable_is, unsayable_reported}
+use Rattle.command_server.proofs.ReplyLemmas.{job_refuses, job_reported, job_unmade, sayable_is, sayable_ok, sayable_unmade, reports_none, unsayable_is, unsayable_reported}
 use Rattle.command_server.proofs.answering.instance_reply.Goals as goal
 
 pub returns-in_err-job : goal.returns-in_err-job
 returns-in_err-job g c =
     let p = err_from_is_err_and c.from_residual.result c.from_residual.ensures.1 in
-    rw (p.1, p.2) (tells_none instance_reply c.args.session.now c.in_err-job.field-0.0 (λ t. refl) c.in_err-job.ensures.none)
+    rw (p.1, p.2) (reports_none instance_reply c.args.session.now c.in_err-job.field-0.0 (λ t. refl) c.in_err-job.ensures.none)
 
 pub returns-in-Ok : goal.returns-in-Ok
 returns-in-Ok g c =
@@ -33,7 +32,7 @@ returns-in-Err-NoFormat g c =
     let job = c.in_ok-job.job.now in
     let is : c.print_instance.result ≡ Err instance_fault.NoFormat = search rules in
     let unsayable = unsayable_reported (has_format job.problem) c.print_instance.result c.print_instance.ensures.no_format c.print_instance.ensures.format is in
-    job_refuses instance_reply c.args.session.now job c.in_ok-job.ensures.job.0 c.in_ok-job.ensures.job.1 (answer.Refused core.NoFormat) (unsayable_is job unsayable)
+    job_refuses instance_reply c.args.session.now job c.in_ok-job.ensures.job.0 c.in_ok-job.ensures.job.1 answer.NoFormat (unsayable_is job unsayable)
 
 pub returns-in-Err-OutOfMemory : goal.returns-in-Err-OutOfMemory
 returns-in-Err-OutOfMemory g c =

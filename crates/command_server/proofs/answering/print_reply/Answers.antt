@@ -9,13 +9,13 @@ use Rattle.route_sched.specs.Cost.{unplanned_count}
 use Rattle.sol_text.specs.declared.faults.WriteSolFault.TheVariants as write
 use Rattle.command_server.specs.ServeContract.{Reports}
 use Rattle.command_server.specs.ServeSteps.{silent}
-use Rattle.command_server.proofs.ReplyLemmas.{job_refuses, job_reported, job_unmade, planned_is, planned_ok, planned_unmade, tells_none, unplanned_is, unplanned_reported}
+use Rattle.command_server.proofs.ReplyLemmas.{job_refuses, job_reported, job_unmade, planned_is, planned_ok, planned_unmade, reports_none, unplanned_is, unplanned_reported}
 use Rattle.command_server.proofs.answering.print_reply.Goals as goal
 
 pub returns-in_err-job : goal.returns-in_err-job
 returns-in_err-job g c =
     let p = err_from_is_err_and c.from_residual.result c.from_residual.ensures.1 in
-    rw (p.1, p.2) (tells_none print_reply c.args.session.now c.in_err-job.field-0.0 (λ t. refl) c.in_err-job.ensures.none)
+    rw (p.1, p.2) (reports_none print_reply c.args.session.now c.in_err-job.field-0.0 (λ t. refl) c.in_err-job.ensures.none)
 
 pub returns-in-Ok : goal.returns-in-Ok
 returns-in-Ok g c =

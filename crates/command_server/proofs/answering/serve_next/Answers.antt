@@ -4,12 +4,12 @@ use Rattle.command_text.specs.Answering.{next_reply}
 use Rattle.command_text.specs.Answers.{answer_text, line, next_text}
 use Rattle.command_text.specs.declared.answers.Answer.TheVariants as answer
 use Rattle.command_server.specs.Streams.{WritesAndFlushes}
-use Rattle.command_server.proofs.ReplyLemmas.{job_stated, tells_none}
+use Rattle.command_server.proofs.ReplyLemmas.{job_stated, reports_none}
 use Rattle.command_server.proofs.ServeLemmas.{answers_reported}
 use Rattle.command_server.proofs.answering.serve_next.Goals as goal
 
 pub returns-in-Err-clause-answers : goal.returns-in-Err-clause-answers
-returns-in-Err-clause-answers g c = answers_reported c.write_answer.result _ _ (tells_none next_reply c.args.session.now c.in-Err.answer (λ t. refl) c.in-Err.ensures.none) c.write_answer.ensures.reported
+returns-in-Err-clause-answers g c = answers_reported c.write_answer.result _ _ (reports_none next_reply c.args.session.now c.in-Err.answer (λ t. refl) c.in-Err.ensures.none) c.write_answer.ensures.reported
 
 pub returns-in-Ok-clause-answers : goal.returns-in-Ok-clause-answers
 returns-in-Ok-clause-answers g c =

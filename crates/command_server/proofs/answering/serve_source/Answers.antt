@@ -24,8 +24,8 @@ returns-clause-serves g c = λ reading input is given.
 pub returns-clause-moments : goal.returns-clause-moments
 returns-clause-moments g c = λ commands replies run whole honest.
     let old = c.args.session.now in
-    let stands = c.images_recover_to_the_state.ensures whole (honest_before g.D.Sectors commands replies old c.serve_lines.new.session run honest) in
-    c.runs_compose.ensures.moments old old c.serve_lines.new.session [] commands [] replies refl run whole honest stands
+    let recovers = c.images_recover_to_the_state.ensures whole (honest_before g.D.Sectors commands replies old c.serve_lines.new.session run honest) in
+    c.runs_compose.ensures.moments old old c.serve_lines.new.session [] commands [] replies refl run whole honest recovers
 
 pub returns-clause-cause : goal.returns-clause-cause
 returns-clause-cause g c = λ input given.

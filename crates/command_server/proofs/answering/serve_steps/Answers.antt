@@ -23,6 +23,6 @@ pub returns-in-Err-clause-answers : goal.returns-in-Err-clause-answers
 returns-in-Err-clause-answers g c =
     let session = c.args.session.now in
     let whole : session.is_broken ≡ false = sym c.is_broken.ensures.broken ∙ c.if-is_broken.false in
-    let is : steps_to_make session.state c.args.goal ≡ Err c.in-Err.refusal =
+    let is : steps_to_make session.state c.args.goal ≡ Err c.in-Err.answer =
     ap (λ state. steps_to_make state c.args.goal) (sym c.state.ensures.state) ∙ sym c.steps_to_make.ensures ∙ c.in-Err.is in
-    answers_reported c.write_answer-in-Err.result _ _ (steps_refused c.args.goal session c.in-Err.refusal whole is) c.write_answer-in-Err.ensures.reported
+    answers_reported c.write_answer-in-Err.result _ _ (steps_refused c.args.goal session c.in-Err.answer whole is) c.write_answer-in-Err.ensures.reported

@@ -7,13 +7,13 @@ use Rattle.command_text.specs.Showing.{show_text}
 use Rattle.command_text.specs.declared.answers.Answer.TheVariants as answer
 use Rattle.command_server.specs.ServeContract.{Reports}
 use Rattle.command_server.specs.ServeSteps.{silent}
-use Rattle.command_server.proofs.ReplyLemmas.{job_reported, job_unmade, tells_none}
+use Rattle.command_server.proofs.ReplyLemmas.{job_reported, job_unmade, reports_none}
 use Rattle.command_server.proofs.answering.show_reply.Goals as goal
 
 pub returns-in_err-job : goal.returns-in_err-job
 returns-in_err-job g c =
     let p = err_from_is_err_and c.from_residual.result c.from_residual.ensures.1 in
-    rw (p.1, p.2) (tells_none show_reply c.args.session.now c.in_err-job.field-0.0 (λ t. refl) c.in_err-job.ensures.none)
+    rw (p.1, p.2) (reports_none show_reply c.args.session.now c.in_err-job.field-0.0 (λ t. refl) c.in_err-job.ensures.none)
 
 pub returns-in-Ok : goal.returns-in-Ok
 returns-in-Ok g c =

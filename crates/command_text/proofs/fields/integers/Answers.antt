@@ -1,5 +1,5 @@
--- Taking the words one by one returns all their numbers. It returns none if a word is not a number, or if there
--- are too many.
+-- The words are taken one by one. The result has all their numbers, or is `None` if a word is not an integer or
+-- there are too many words.
 use Rattle.std.proofs.Common.{rules}
 use Rattle.command_text.proofs.FieldLemmas.{begin, go_on, no_integer, too_many, all_taken}
 use Rattle.command_text.proofs.fields.integers.Goals as goal

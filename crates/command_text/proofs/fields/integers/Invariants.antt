@@ -1,4 +1,4 @@
--- The numbers so far and those of the remaining words are the numbers of all words.
+-- The numbers so far, followed by those of the remaining words, are the numbers of all words.
 use Rattle.command_text.proofs.FieldLemmas.{TakesOn}
 use Rattle.command_text.proofs.fields.integers.Given as goal
 

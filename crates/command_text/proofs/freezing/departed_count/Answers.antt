@@ -1,9 +1,9 @@
--- The vehicle has departed to the stops counted so far, and not to the next one.
+-- The loop ends at the first place to which the vehicle has not departed, or at the end of the route.
 use Rattle.std.proofs.Common.{rules, ◌≡◌, ◌∙◌, ◌≤◌, ℕ, true, false, [], length, sym, ap, arith}
 use Rattle.route_sched.specs.VisitList.{visit_after, visits_from}
 use Rattle.plan_audit.proofs.VisitLemmas.{visit_is, visits_left}
 use Rattle.command_text.specs.Freezing.{has_departed}
-use Rattle.command_text.proofs.FreezeLemmas.{front_ends, front_goes, front_none, no_visit}
+use Rattle.command_text.proofs.FreezeLemmas.{prefix_ends, prefix_continues, prefix_none, no_visit}
 use Rattle.command_text.proofs.freezing.departed_count.Goals as goal
 
 pub returns-in_default : goal.returns-in_default
@@ -19,7 +19,7 @@ returns-then-not-has_departed c =
     let test = λ (i : ℕ). has_departed c.args.time (visit_after p route i) in
     let here = visit_is p route k c.in-Some.visit _ _ (omega (arith, c.loop-place-test.true)) c.loop-place.invariant.rest c.in-Some.ensures.steps in
     let not_yet : has_departed c.args.time (visit_after p route k) ≡ false = sym (ap (has_departed c.args.time) here) ∙ sym c.has_departed.ensures ∙ c.if-not-has_departed.true in
-    omega (arith, c.loop-place.invariant.counted, front_ends test k (length route) c.loop-place-test.true not_yet)
+    omega (arith, c.loop-place.invariant.counted, prefix_ends test k (length route) c.loop-place-test.true not_yet)
 
 pub loop-place-preserved : goal.loop-place-preserved
 loop-place-preserved c =
@@ -32,7 +32,7 @@ loop-place-preserved c =
     let on : has_departed c.args.time (visit_after p route k) ≡ true = sym (ap (has_departed c.args.time) here) ∙ sym c.has_departed.ensures ∙ c.if-not-has_departed.false in
     record {
       rest = visits_left p route k c.in-Some.visit _ _ le c.loop-place.invariant.rest c.in-Some.ensures.steps;
-      counted = omega (arith, c.loop-place.invariant.counted, front_goes test k (length route) c.loop-place-test.true on);
+      counted = omega (arith, c.loop-place.invariant.counted, prefix_continues test k (length route) c.loop-place-test.true on);
     }
 
 pub returns : goal.returns
@@ -40,4 +40,4 @@ returns c =
     let p = c.args.problem.now in
     let route = c.args.route.now in
     let test = λ (i : ℕ). has_departed c.args.time (visit_after p route i) in
-    omega (arith, c.loop-place.invariant.counted, c.loop-place.auto.place-end, c.loop-place-test.false, front_none test c.loop-place.place (length route) (omega (arith, c.loop-place-test.false)))
+    omega (arith, c.loop-place.invariant.counted, c.loop-place.auto.place-end, c.loop-place-test.false, prefix_none test c.loop-place.place (length route) (omega (arith, c.loop-place-test.false)))

@@ -1,4 +1,5 @@
--- A job's plan passes the audit, so the stops of the vehicle's route are current, distinct, and few enough.
+-- A job's plan passes the audit, so the stops of the vehicle's route are known and distinct, and there are at
+-- most 40,001.
 use Rattle.std.proofs.Common.{◌∙◌, ℕ, List, All, sym, ap, subst}
 use Rattle.route_sched.specs.Route.{AreDistinctStops}
 use Rattle.move_ops.specs.Insertion.{route_of}

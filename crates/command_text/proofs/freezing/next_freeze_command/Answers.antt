@@ -1,4 +1,4 @@
--- The next pin is that of the first remaining vehicle with something to freeze, if there is one.
+-- The next operation is that of the first remaining vehicle that gets a longer pin, if there is one.
 use Rattle.std.proofs.Common.{rules, ◌≡◌, ◌∙◌, sym, arith}
 use Rattle.command_text.proofs.FreezeLemmas.{next_pin, no_pin, none_left}
 use Rattle.command_text.proofs.freezing.next_freeze_command.Goals as goal

@@ -1,4 +1,4 @@
--- No vehicle so far needs a new pin.
+-- No vehicle so far gets a longer pin.
 use Rattle.std.proofs.Common.{◌≡◌}
 use Rattle.command_text.specs.Freezing.{freeze_commands}
 use Rattle.command_text.proofs.freezing.next_freeze_command.Given as goal

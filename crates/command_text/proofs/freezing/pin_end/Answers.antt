@@ -1,4 +1,4 @@
--- The result is the first number of stops that may be pinned, counted up from the stops with a departure.
+-- The result is the first number of stops, from `first` on, that may be pinned.
 use Rattle.std.proofs.Common.{◌∙◌, ◌+◌, ◌-◌, ℕ, List, length, sym, ap, arith, refl}
 use Rattle.std.specs.List.{find, range_with_len}
 use Rattle.command_text.specs.Freezing.{may_be_pinned}

@@ -1,4 +1,4 @@
--- Searching the remaining numbers finds the same as searching all numbers.
+-- A search of the remaining numbers finds what a search of all numbers finds.
 use Rattle.std.proofs.Common.{◌≡◌, ◌+◌, length}
 use Rattle.command_types.specs.declared.states.State.TheVariants.{Loaded}
 use Rattle.command_types.specs.Job.{JobValue}

@@ -1,4 +1,4 @@
--- A text is read as the problem or the fault that the reading has for it.
+-- The result is the problem or the fault that the reading has for the text, or out of memory.
 use Rattle.command_text.proofs.ReadLemmas.{read_once}
 use Rattle.command_text.proofs.instances.read_instance.Goals as goal
 

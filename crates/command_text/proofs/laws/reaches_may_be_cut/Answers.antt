@@ -1,4 +1,4 @@
--- If `reach N` is cut off and repeated, it ends in the same state as an uninterrupted one.
+-- The command `reach N` ends in the same state if it is cut off and repeated.
 use Rattle.command_text.proofs.ReachLemmas.{reached_lines_may_be_cut}
 use Rattle.command_text.proofs.laws.reaches_may_be_cut.Goals as goal
 

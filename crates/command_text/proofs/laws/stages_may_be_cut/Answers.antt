@@ -1,5 +1,5 @@
--- If annealing in stages is cut off and repeated, it ends in the same state as an uninterrupted one. The same
--- holds for the command `anneal FROM TO`.
+-- Annealing in stages ends in the same state if it is cut off and repeated, and so does the command `anneal FROM
+-- TO`.
 use Rattle.command_text.proofs.RepeatLemmas.{lines_may_be_cut}
 use Rattle.command_text.proofs.StagingLemmas.{stages_may_be_cut}
 use Rattle.command_text.proofs.laws.stages_may_be_cut.Goals as goal

@@ -1,4 +1,4 @@
--- If a word after the name is not a number, the line is not a command.
+-- If a word after the name is not an integer, or if there are too many, the line is bad.
 use Rattle.command_text.proofs.FieldLemmas.{no_command}
 use Rattle.command_text.proofs.parsed_command.parse_fields.Goals as goal
 

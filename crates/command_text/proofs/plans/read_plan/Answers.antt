@@ -1,4 +1,4 @@
--- The result is the plan that the reading has for the job's problem, or out of memory.
+-- The result is the plan that the reading has for the job's problem and pins, or out of memory.
 use Rattle.std.proofs.Common.{subst, rules}
 use Rattle.command_types.specs.Job.{JobValue}
 use Rattle.command_text.specs.Readings.{IsPlanUnlessMemory}

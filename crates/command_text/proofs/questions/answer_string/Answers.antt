@@ -1,4 +1,4 @@
--- A job's plan passes the audit, so its routes have current, distinct stops.
+-- A job's plan passes the audit, so the stops of its routes are known and distinct.
 use Rattle.std.proofs.Common.{sym, subst, All}
 use Rattle.route_sched.specs.Route.{AreDistinctStops}
 use Rattle.command_text.proofs.questions.answer_string.Goals as goal

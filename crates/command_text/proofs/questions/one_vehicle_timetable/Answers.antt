@@ -1,4 +1,4 @@
--- The vehicle's route has current, distinct stops.
+-- The stops of the vehicle's route are known and distinct.
 use Rattle.std.proofs.Common.{sym, subst}
 use Rattle.route_sched.specs.Route.{AreDistinctStops}
 use Rattle.command_text.proofs.RouteLemmas.{vehicle_once}

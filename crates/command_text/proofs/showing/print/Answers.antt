@@ -1,4 +1,4 @@
--- If the plan leaves no request out, only out of memory is possible as an error.
+-- If no request is unplanned, the only possible error is out of memory.
 use Rattle.std.proofs.Common.{◌≡◌, subst}
 use Rattle.route_sched.specs.Cost.{unplanned_count}
 use Rattle.command_types.specs.Job.{JobValue}

@@ -1,4 +1,4 @@
--- The next operation is the first of all, and the operations after it follow.
+-- The next operation is the first of all operations, and the cursor stands for the others.
 use Rattle.std.proofs.Common.{rules, ◌≡◌, Some}
 use Rattle.command_text.specs.Staging.{next_steps}
 use Rattle.command_text.proofs.StagingLemmas.{next_made}

@@ -1,4 +1,4 @@
--- Two cases: a deviation is set before the next steps, or not.
+-- The next operation sets a deviation, or else makes the next steps.
 use Rattle.std.proofs.Common.{rules, ◌≡◌, ◌∷◌, List, [], None, sym, subst}
 use Rattle.std.specs.Prelude.{MatchOption}
 use Rattle.command_core.specs.Effects.{effect}

@@ -1,4 +1,4 @@
--- If `from` is above `to`, no step belongs to a stage.
+-- If `from` is above `to`, no step has a stage. The end of the stage that is found is above the step.
 use Rattle.std.proofs.Common.{◌≡◌, ◌<◌, ◌≤◌, ◌+◌, ℕ, Option, Some, None, sym, arith}
 use Rattle.std.specs.Prelude.{IfSome}
 use Rattle.annealing_schedule.specs.Stages.{boundary, stage_of}

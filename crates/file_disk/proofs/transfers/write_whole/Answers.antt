@@ -2,7 +2,7 @@
 use Rattle.std.proofs.Common.{◌≡◌, ◌∙◌, ◌+◌, ◌*◌, ◌∷◌, drop, length, refl, ap, subst, arith, List, ℕ}
 use Rattle.std.proofs.lemmas.List.{take-append-drop, length-drop}
 use Rattle.std.proofs.lemmas.Slice.{between_to_end}
-use Rattle.file_disk.specs.SystemCalls.{answered}
+use Rattle.system_calls.specs.SystemCalls.{answered}
 use Rattle.file_disk.specs.Transfers.{Writes, transfers_by}
 use Rattle.file_disk.proofs.TransferSteps.{so_far, continues_with_rest, moved_call}
 use Rattle.file_disk.proofs.transfers.write_whole.Goals as goal

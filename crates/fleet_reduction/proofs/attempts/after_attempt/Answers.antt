@@ -23,6 +23,6 @@ returns g c pins end has =
     ∙ ap (λ f. cond (cost_at_most (cost_of p f) (cost_of p t.plan.routes)) f t.plan.routes) found_is) in
     let sized =
     c.next_size-size.ensures
-    ∙ (ap (λ f. cond (c.args.whole && not (serves_all p f)) (t.size / 2) t.size) found_is
-    ∙ ap (λ w. cond (w && not (serves_all p (put_back subfleet c.args.attempt.plan.routes))) (t.size / 2) t.size) c.requires.whole) in
+    ∙ (ap (λ f. cond (c.serves_all-whole.result && not (serves_all p f)) (t.size / 2) t.size) found_is
+    ∙ ap (λ w. cond (w && not (serves_all p (put_back subfleet c.args.attempt.plan.routes))) (t.size / 2) t.size) c.serves_all-whole.ensures) in
     after_attempt_is p pins c.cheaper.result.routes (attempts_by t) subfleet end c.args.attempt.plan.routes c.args.attempt.step c.next_size-size.result has.plan has.step taken sized

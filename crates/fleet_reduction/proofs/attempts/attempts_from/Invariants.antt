@@ -7,12 +7,12 @@ use Rattle.fleet_reduction.proofs.attempts.attempts_from.Given as goal
 
 abbrev pub invariant-loop-attempts : goal.invariant-loop-attempts
 invariant-loop-attempts g l = record {
-  at : AtAttempts l.problem l.pins.routes l.seed l.count l.end
-      (attempts_from l.problem l.pins.routes l.seed l.count l.end (max_attempts l.problem l.pins.routes l.count (attempts_by l.fn.attempts)) (attempts_by l.fn.attempts))
+  at : AtAttempts l.context.problem.now l.context.pins.now.routes l.context.seed l.count l.end
+      (attempts_from l.context.problem.now l.context.pins.now.routes l.context.seed l.count l.end (max_attempts l.context.problem.now l.context.pins.now.routes l.count (attempts_by l.fn.attempts)) (attempts_by l.fn.attempts))
       (attempts_by l.attempts);
   end : l.end ≡ l.fn.attempts.step + l.count;
   first : l.fn.attempts.step ≤ l.attempts.step;
 }
 
 abbrev pub decreases-loop-attempts : goal.decreases-loop-attempts
-decreases-loop-attempts g l = attempts_left l.problem l.end (attempts_by l.attempts)
+decreases-loop-attempts g l = attempts_left l.context.problem.now l.end (attempts_by l.attempts)

@@ -1,4 +1,4 @@
--- Each line after EOF is after the end, where no line counts.
+-- Each line after EOF is after the end of the text.
 use Rattle.instance_read.proofs.VrpLawProofs.{end}
 use Rattle.instance_read.proofs.laws.eof_is_the_end.Goals as goal
 

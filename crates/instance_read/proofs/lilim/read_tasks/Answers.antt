@@ -19,10 +19,10 @@ loop-line-preserved g c =
     let steps = c.in-Some.ensures.steps in
     let last = c.copied-previous.ensures ∙ c.last.ensures.value ∙ ap (λ ts. slice_get ts (length ts - 1)) c.deref.ensures.value ∙ last_or-is tasks in
     rw c.in_ok-push-in-Ok.ensures.items (record {
-      tasks = tasks_more c.args.limits.now c.args.lines rest more row tasks previous task steps last c.in-Ok.ensures.0 c.in-Ok.ensures.1 kept.tasks;
-      above = above_more c.args.limits.now c.args.lines rest more row tasks previous task steps last c.in-Ok.ensures.0 c.in-Ok.ensures.1 kept.above;
-      none = λ h. kept.none (none_more c.args.limits.now c.args.lines rest more row tasks previous task steps last c.in-Ok.ensures.0 c.in-Ok.ensures.1 h);
-      first = λ f h. kept.first f (first_more c.args.limits.now c.args.lines rest more row tasks previous task steps last c.in-Ok.ensures.0 c.in-Ok.ensures.1 f h);
+      tasks = tasks_more c.args.scale c.args.limits.now c.args.lines rest more row tasks previous task steps last c.in-Ok.ensures.0 c.in-Ok.ensures.1 kept.tasks;
+      above = above_more c.args.scale c.args.limits.now c.args.lines rest more row tasks previous task steps last c.in-Ok.ensures.0 c.in-Ok.ensures.1 kept.above;
+      none = λ h. kept.none (none_more c.args.scale c.args.limits.now c.args.lines rest more row tasks previous task steps last c.in-Ok.ensures.0 c.in-Ok.ensures.1 h);
+      first = λ f h. kept.first f (first_more c.args.scale c.args.limits.now c.args.lines rest more row tasks previous task steps last c.in-Ok.ensures.0 c.in-Ok.ensures.1 f h);
     })
 
 pub returns-in-Err-clause-err : goal.returns-in-Err-clause-err

@@ -2,7 +2,7 @@
 -- too.
 use Rattle.std.proofs.Common.{length, refl}
 use Rattle.std.proofs.lemmas.Option.{slice_get_read}
-use Rattle.move_ops.proofs.Logging.{within_without}
+use Rattle.move_ops.proofs.LogLemmas.{within_without}
 use Rattle.move_ops.proofs.draft.remove_entry.Goals as goal
 
 pub returns-clause-within : goal.returns-clause-within

@@ -1,6 +1,6 @@
 -- A detour to one stop saves at most a distance of 1, so an inserted request saves at most 1 for each of its
 -- stops.
-use Rattle.move_ops.proofs.Saving.{placements_save_little}
+use Rattle.move_ops.proofs.SavingLemmas.{placements_save_little}
 use Rattle.move_ops.proofs.laws.placements_save_little.Goals as goal
 
 pub returns : goal.returns

@@ -1,6 +1,6 @@
 -- A removed request can be inserted where it was. So it has a best insertion, with which the plan costs no more
 -- than before.
-use Rattle.move_ops.proofs.Reinserting.{relocations_never_cost_more}
+use Rattle.move_ops.proofs.ReinsertionLemmas.{relocations_never_cost_more}
 use Rattle.move_ops.proofs.laws.relocations_never_cost_more.Goals as goal
 
 pub returns : goal.returns

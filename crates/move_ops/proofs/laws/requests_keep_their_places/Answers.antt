@@ -1,5 +1,5 @@
 -- A request removed from a plan that passes can be inserted where it was, which restores the old plan.
-use Rattle.move_ops.proofs.Reinserting.{requests_keep_their_places}
+use Rattle.move_ops.proofs.ReinsertionLemmas.{requests_keep_their_places}
 use Rattle.move_ops.proofs.laws.requests_keep_their_places.Goals as goal
 
 pub returns : goal.returns

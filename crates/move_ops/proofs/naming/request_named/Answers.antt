@@ -3,7 +3,7 @@
 use Rattle.std.proofs.Common.{◌≡◌, Some, sym, ap, subst, ◌∙◌}
 use Rattle.std.specs.Option.{option_copied}
 use Rattle.plan_types.specs.Instance.{name_at}
-use Rattle.move_ops.proofs.NamedFound.{none_named, other_named, no_stop, no_second, single_named, pair_named}
+use Rattle.move_ops.proofs.NamedRequestLemmas.{none_named, other_named, no_stop, no_second, single_named, pair_named}
 use Rattle.move_ops.proofs.naming.request_named.Goals as goal
 
 pub returns-in_default : goal.returns-in_default

@@ -15,6 +15,7 @@ returns c =
     let p = c.args.problem.now in
     let pins = c.args.pins.now.routes in
     let r = c.in-Some.request.now in
-    c.best.ensures.best
+    c.tuple_of.ensures
+    ∙ (c.best.ensures.best
     ∙ (ap (λ (l : List (List ℕ)). best_insertion p pins l (request_name r)) c.in_ok-draft.ensures.draft
-    ∙ ap (best_insertion p pins c.args.plan.now.routes) (named_so p c.in_ok-draft.ensures.is.valid c.args.name r (search rules)))
+    ∙ ap (best_insertion p pins c.args.plan.now.routes) (named_so p c.in_ok-draft.ensures.is.valid c.args.name r (search rules))))

@@ -1,7 +1,7 @@
 -- A number whose remainder has no mark is among the names exactly when it is among the remaining ones, so at the
 -- end it is none of them.
 use Rattle.std.proofs.Common.{◌≡◌, length}
-use Rattle.move_ops.proofs.Marking.{AreMarked}
+use Rattle.move_ops.proofs.MarkLemmas.{AreMarked}
 use Rattle.move_ops.proofs.removal.marks_of.Given as goal
 
 abbrev pub invariant-loop-name : goal.invariant-loop-name

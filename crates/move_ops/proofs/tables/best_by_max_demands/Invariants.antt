@@ -1,7 +1,7 @@
 -- The best over the vehicles of `first` and the ones so far is known, and no later used vehicle needs a greater
 -- bound. So at the end it is the best of all.
 use Rattle.std.proofs.Common.{◌≡◌, ◌+◌, true}
-use Rattle.move_ops.specs.Choosing.{HasIdle, IsBestAmongThese, IsLooseBound, IsEntryOrUpTo, IsBelowMaximum}
+use Rattle.move_ops.specs.InsertionSearch.{HasIdle, IsBestAmongThese, IsLooseBound, IsEntryOrUpTo, IsBelowMaximum}
 use Rattle.move_ops.specs.Tables.{plan_of}
 use Rattle.move_ops.proofs.tables.best_by_max_demands.Given as goal
 

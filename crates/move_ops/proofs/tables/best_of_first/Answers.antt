@@ -1,7 +1,7 @@
 -- The vehicle of one more entry is searched, or has no stops and need not be searched.
 use Rattle.std.proofs.Common.{rules, ◌-◌, ◌+◌, [], length, get_or, sym, subst, arith}
 use Rattle.slack_tables.specs.Course.{course_route}
-use Rattle.move_ops.specs.Choosing.{IsBestAmongThese, IsScannable, IsScanned, IsEntryWithStops}
+use Rattle.move_ops.specs.InsertionSearch.{IsBestAmongThese, IsScannable, IsScanned, IsEntryWithStops}
 use Rattle.move_ops.specs.Insertion.{route_of}
 use Rattle.move_ops.specs.Tables.{plan_of}
 use Rattle.move_ops.proofs.QueryLemmas.{entry_at, lookable, named_idle, named_more}
@@ -18,7 +18,7 @@ scan_vehicle-requires-clause-vehicle c =
     entry_at (length tables) first c.loop-j.j c.index-first-j.result number.result c.requires.first
     (search rules) number.ensures in
     subst (λ u. IsScannable c.args.terms.now.problem.now c.args.terms.now.pins.now c.args.request.now c.args.ways.now u table) (sym e.2)
-    (lookable c.insertion_laws.ensures c.requires.asked (number.result - 1) table c.index-tables-index.is e.3 c.args.ways.now c.requires.distances)
+    (lookable c.insertion_laws.ensures c.requires.query (number.result - 1) table c.index-tables-index.is e.3 c.args.ways.now c.requires.distances)
 
 pub loop-j-preserved : goal.loop-j-preserved
 loop-j-preserved c =
@@ -35,14 +35,14 @@ loop-j-preserved c =
       best = elim c.if-stop_count-ne0.branch [
         | then-stop_count-ne0 w ↦ (
             subst (IsBestAmongThese p pins routes r limit (IsEntryWithStops routes first (c.loop-j.j + 1))) (sym w.best-is)
-            (named_more c.insertion_laws.ensures c.requires.asked (v - 1) table c.index-tables-index.is e.3 first limit c.loop-j.j
+            (named_more c.insertion_laws.ensures c.requires.query (v - 1) table c.index-tables-index.is e.3 first limit c.loop-j.j
             (get_or first c.loop-j.j c.index-first-j.result) e.0 e.1 (omega arith)
             (omega arith) c.loop-j.best w.scan_vehicle.new.best c.loop-j.invariant.best
             (subst (λ u. IsScanned p (course_route table) r
             (length (route_of pins u)) [] u limit c.loop-j.best w.scan_vehicle.new.best) e.2 w.scan_vehicle.ensures.scanned)))
         | else-stop_count-ne0 w ↦ (
             subst (IsBestAmongThese p pins routes r limit (IsEntryWithStops routes first (c.loop-j.j + 1))) (sym w.best-is)
-            (named_idle c.insertion_laws.ensures c.requires.asked (v - 1) table c.index-tables-index.is e.3 first limit c.loop-j.j
+            (named_idle c.insertion_laws.ensures c.requires.query (v - 1) table c.index-tables-index.is e.3 first limit c.loop-j.j
             (get_or first c.loop-j.j c.index-first-j.result) e.0 e.1 (omega arith) c.loop-j.best c.loop-j.invariant.best))
       ];
       short = search rules;

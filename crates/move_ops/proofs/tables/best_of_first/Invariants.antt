@@ -1,6 +1,6 @@
 -- The best over the vehicles of the entries so far is known, so at the end it is the best over those of all
 -- entries.
-use Rattle.move_ops.specs.Choosing.{IsBestAmongThese, IsEntryWithStops, IsBelowMaximum}
+use Rattle.move_ops.specs.InsertionSearch.{IsBestAmongThese, IsEntryWithStops, IsBelowMaximum}
 use Rattle.move_ops.specs.Tables.{plan_of}
 use Rattle.move_ops.proofs.tables.best_of_first.Given as goal
 

@@ -2,7 +2,7 @@
 use Rattle.std.proofs.Common.{rules, ◌≡◌, Some, nat_eq, subst}
 use Rattle.std.specs.Map.{lookup}
 use Rattle.plan_types.specs.Instance.{IsInstance}
-use Rattle.move_ops.proofs.Choosing.{name_of}
+use Rattle.move_ops.proofs.ChoiceLemmas.{name_of}
 use Rattle.move_ops.proofs.tables.current_request.Goals as goal
 
 pub returns-clause-name : goal.returns-clause-name

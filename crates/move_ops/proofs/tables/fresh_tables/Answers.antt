@@ -3,7 +3,7 @@ use Rattle.std.proofs.Common.{rules, ◌≤◌, ◌-◌, ℕ, [], sym, subst, ar
 use Rattle.std.proofs.lemmas.List.Elements.{All-get_or}
 use Rattle.plan_types.specs.Instance.{IsInstance}
 use Rattle.move_ops.proofs.QueryLemmas.{route_once, route_keeps}
-use Rattle.move_ops.proofs.Refreshing.{vehicle_at, fleet_of}
+use Rattle.move_ops.proofs.RefreshLemmas.{vehicle_at, fleet_of}
 use Rattle.move_ops.proofs.tables.fresh_tables.Goals as goal
 
 pub build-requires-clause-route : goal.build-requires-clause-route

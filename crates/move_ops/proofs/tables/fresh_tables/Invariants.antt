@@ -1,6 +1,6 @@
 -- The tables so far are those of the vehicles so far, so at the end each vehicle has its own.
 use Rattle.std.proofs.Common.{◌≡◌, map, take}
-use Rattle.move_ops.specs.Refreshing.{fresh_of}
+use Rattle.move_ops.specs.FreshTables.{fresh_of}
 use Rattle.move_ops.proofs.tables.fresh_tables.Given as goal
 
 abbrev pub invariant-loop-vehicle : goal.invariant-loop-vehicle

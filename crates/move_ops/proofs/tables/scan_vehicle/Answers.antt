@@ -7,7 +7,7 @@ use Rattle.slack_tables.specs.Course.{Course}
 use Rattle.slack_tables.specs.RequestFloors.{AreFloors}
 use Rattle.slack_tables.specs.FitsNowhere.{FitsNowhere}
 use Rattle.move_ops.specs.Insertion.{route_of}
-use Rattle.move_ops.proofs.Choosing.{passed_over}
+use Rattle.move_ops.proofs.ChoiceLemmas.{passed_over}
 use Rattle.move_ops.proofs.tables.scan_vehicle.Goals as goal
 
 pub returns-then-rules_out_with-clause-scanned : goal.returns-then-rules_out_with-clause-scanned

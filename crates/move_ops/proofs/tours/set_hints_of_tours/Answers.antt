@@ -3,7 +3,7 @@ use Rattle.std.proofs.Common.{rules, ◌≡◌, ◌∙◌, [], get_or, sym, ap, 
 use Rattle.std.proofs.lemmas.List.{get_or-map, length-map}
 use Rattle.slack_tables.specs.Course.{course_route}
 use Rattle.move_ops.specs.Tables.{plan_of}
-use Rattle.move_ops.proofs.HintLemmas.{seats_more}
+use Rattle.move_ops.proofs.HintLemmas.{hints_more}
 use Rattle.move_ops.proofs.tours.set_hints_of_tours.Goals as goal
 
 pub loop-tour-preserved : goal.loop-tour-preserved
@@ -15,7 +15,7 @@ loop-tour-preserved c =
     c.stops.ensures ∙ (ap course_route (sym here) ∙ sym (get_or-map course_route tours k c.tour-item.result [] (omega arith))) in
     record {
       vehicle_hints =
-          seats_more c.loop-tour.vehicle_hints c.set_hints.new.vehicle_hints (plan_of tours) k c.stops.result.now
+          hints_more c.loop-tour.vehicle_hints c.set_hints.new.vehicle_hints (plan_of tours) k c.stops.result.now
           (omega (arith, length-map tours course_route)) stops c.loop-tour.invariant.vehicle_hints c.set_hints.ensures.stops c.set_hints.ensures.others;
       len = c.set_hints.ensures.len ∙ c.loop-tour.invariant.len;
       vehicle = c.next-vehicle.ensures;

@@ -3,7 +3,7 @@ use Rattle.std.proofs.Common.{◌-◌, length, subst, ap, arith}
 use Rattle.move_ops.specs.Drafts.{AreIdleAfter}
 use Rattle.move_ops.specs.Tables.{plan_of}
 use Rattle.move_ops.proofs.QueryLemmas.{route_at, stops_long}
-use Rattle.move_ops.proofs.Drafting.{idle_before}
+use Rattle.move_ops.proofs.DraftLemmas.{idle_before}
 use Rattle.move_ops.proofs.tours.used_len_of.Goals as goal
 
 pub loop-used_len-preserved : goal.loop-used_len-preserved

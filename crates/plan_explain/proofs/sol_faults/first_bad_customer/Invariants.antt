@@ -1,4 +1,4 @@
--- The first bad word among the remaining words is the first of all.
+-- The first bad word among the remaining words is the first bad word of the whole line.
 use Rattle.std.proofs.Common.{◌≡◌}
 use Rattle.std.specs.Prelude.{find}
 use Rattle.text_lines.specs.Words.{words_of}

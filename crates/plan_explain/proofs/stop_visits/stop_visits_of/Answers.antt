@@ -1,4 +1,4 @@
--- The next visit is that of the next place, and there is one.
+-- The iterator has a visit for each remaining place, and returns that of the next place.
 use Rattle.std.proofs.Common.{◌∙◌, ◌∷◌, ◌++◌, [], arith, ap, sym, map}
 use Rattle.std.specs.List.{range_with_len}
 use Rattle.std.proofs.lemmas.List.FromFn.{map-range_with_len_more}

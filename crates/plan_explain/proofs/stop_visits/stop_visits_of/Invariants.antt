@@ -1,4 +1,5 @@
--- The visits so far are in the list, and the remaining ones follow the last visit.
+-- The list has the visits so far, the iterator has the remaining ones, and `last` is the visit of the current
+-- place.
 use Rattle.std.proofs.Common.{◌≡◌, map}
 use Rattle.std.specs.List.{range_with_len}
 use Rattle.route_sched.specs.Route.{place}

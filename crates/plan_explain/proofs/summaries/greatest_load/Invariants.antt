@@ -1,4 +1,4 @@
--- The load so far is the greatest of the rows so far.
+-- `greatest` is the greatest load of the rows so far, and at least 0.
 use Rattle.std.proofs.Common.{◌≡◌, fold, map, pos, take}
 use Rattle.std.specs.Int.{int_max}
 use Rattle.plan_explain.proofs.summaries.greatest_load.Given as goal

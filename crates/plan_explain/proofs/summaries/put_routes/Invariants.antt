@@ -4,4 +4,4 @@ use Rattle.plan_explain.specs.Summaries.{route_lines}
 use Rattle.plan_explain.proofs.summaries.put_routes.Given as goal
 
 abbrev pub invariant-loop-route : goal.invariant-loop-route
-invariant-loop-route l = l.text ++ route_lines (l.route + 1) (drop l.route l.summaries) ≡ l.fn.text ++ route_lines 1 l.summaries
+invariant-loop-route l = l.text ++ route_lines l.kind (l.route + 1) (drop l.route l.summaries) ≡ l.fn.text ++ route_lines l.fn.kind 1 l.summaries

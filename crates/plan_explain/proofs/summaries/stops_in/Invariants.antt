@@ -1,4 +1,4 @@
--- The sum so far is that of the routes so far, and their number is small enough that it fits.
+-- The sum so far is that of the routes so far. It is at most 2^64 for each of them, so it does not overflow.
 use Rattle.std.proofs.Common.{◌≡◌, ◌≤◌, ◌*◌, ◌^◌, take}
 use Rattle.std.specs.List.{sum_by}
 use Rattle.plan_explain.proofs.summaries.stops_in.Given as goal

@@ -1,4 +1,4 @@
--- The waiting time up to the next row is at most the time at that row, so the sum doesn't overflow.
+-- The waiting time up to the next place is at most the start there, so the sum does not overflow.
 use Rattle.std.proofs.Common.{pos, arith}
 use Rattle.std.proofs.lemmas.List.Sums.{sum_by_more}
 use Rattle.plan_explain.specs.Summaries.{waiting_time}

@@ -1,4 +1,4 @@
--- The sum of the rows so far is at most the time so far.
+-- The sum so far is the waiting time of the rows so far, and at most the start at the current place.
 use Rattle.std.proofs.Common.{◌≡◌, ◌≤◌, take}
 use Rattle.std.specs.List.{sum_by}
 use Rattle.route_sched.specs.Schedule.{start}

@@ -1,5 +1,5 @@
--- The remaining operations lead to the result of all operations. The lines so far and the remaining ones make
--- up the progress lines
+-- The remaining operations lead to the result of all operations. The lines so far and the remaining ones make up
+-- the progress lines.
 use Rattle.std.proofs.Common.{◌≡◌, length}
 use Rattle.command_types.specs.Job.{JobValue}
 use Rattle.command_types.specs.declared.states.State.TheVariants.{Loaded}

@@ -1,4 +1,5 @@
--- A printed solution passes: operations keep the invariants of a job, and empty routes change no verdict
+-- A solution that `solve` prints passes: operations keep the invariants of a job, and empty routes change no
+-- verdict.
 use Rattle.plan_solve.proofs.AuditLemmas.{solutions_pass}
 use Rattle.plan_solve.proofs.laws.solutions_pass_the_audit.Goals as goal
 

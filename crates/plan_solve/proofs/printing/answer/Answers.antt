@@ -1,4 +1,4 @@
--- The text is that of the job's plan, with the requests that it leaves out
+-- The text is that of the job's plan, with the requests that it leaves out.
 use Rattle.std.proofs.Common.{rules}
 use Rattle.plan_solve.proofs.printing.answer.Goals as goal
 

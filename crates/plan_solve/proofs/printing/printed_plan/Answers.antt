@@ -1,4 +1,4 @@
--- If no request is left out, the text spells the solution
+-- If no request is left out, the text spells the solution.
 use Rattle.std.proofs.Common.{◌∙◌}
 use Rattle.plan_solve.proofs.printing.printed_plan.Goals as goal
 

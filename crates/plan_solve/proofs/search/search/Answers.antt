@@ -1,4 +1,4 @@
--- A piece of the search and the remaining steps make up the whole search
+-- An operation of the search and the remaining steps make up the whole search.
 use Rattle.std.proofs.Common.{◌≡◌, ◌∙◌, ◌+◌, ◌-◌, ap, sym, rules, arith}
 use Rattle.command_core.specs.Effects.{effect}
 use Rattle.command_types.specs.declared.commands.Command.TheVariants.{Search}

@@ -1,4 +1,4 @@
--- The remaining steps of the search lead to the result of the whole search
+-- The remaining steps of the search lead to the result of the whole search.
 use Rattle.std.proofs.Common.{◌≡◌}
 use Rattle.command_core.specs.Effects.{effect}
 use Rattle.command_types.specs.declared.commands.Command.TheVariants.{Search}

@@ -1,4 +1,4 @@
--- The lines so far and the remaining ones make up the progress lines
+-- The lines so far and the remaining ones make up the progress lines.
 use Rattle.std.proofs.Common.{◌≡◌, ◌-◌}
 use Rattle.command_types.specs.Job.{JobValue}
 use Rattle.command_types.specs.declared.states.State.TheVariants.{Loaded}

@@ -1,4 +1,4 @@
--- The search continues from the job with the deviation
+-- The search continues from the job with the deviation.
 use Rattle.std.proofs.Common.{◌∙◌, ap}
 use Rattle.std.proofs.lemmas.Result.{IfOk-weaker}
 use Rattle.command_core.specs.Effects.{effect, with_deviation}

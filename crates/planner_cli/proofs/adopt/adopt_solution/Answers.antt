@@ -6,7 +6,7 @@ use Rattle.auditor_cli.specs.Messages.{PrintsReadFailure}
 use Rattle.planner_cli.proofs.adopt.adopt_solution.Goals as goal
 
 pub returns-in-Ok-clause-adopts : goal.returns-in-Ok-clause-adopts
-returns-in-Ok-clause-adopts g c = inl (c.in-Ok.text.items, c.in-Ok.ensures, c.adopt_store.ensures.asks, rw c.deref.ensures.value at c.adopt_store.ensures.adopts)
+returns-in-Ok-clause-adopts g c = inl (c.in-Ok.text.items, c.in-Ok.ensures, c.adopt_store.ensures.requests, rw c.deref.ensures.value at c.adopt_store.ensures.adopts)
 
 pub returns-in-Err-clause-adopts : goal.returns-in-Err-clause-adopts
 returns-in-Err-clause-adopts g c =

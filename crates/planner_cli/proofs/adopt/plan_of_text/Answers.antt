@@ -1,4 +1,4 @@
--- The text describes no plan for the state's problem, for this reason.
+-- The solution describes no plan for the state's problem, for this reason.
 use Rattle.std.proofs.Common.{Err, subst}
 use Rattle.command_types.specs.Job.{JobValue}
 use Rattle.vehicle_assignment.specs.AssignedPlan.{IsFoundOrOutOfMemory}

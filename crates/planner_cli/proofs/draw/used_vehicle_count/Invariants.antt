@@ -1,4 +1,4 @@
--- The count for the remaining vehicles leads to the count for all.
+-- Counting on from the vehicles so far leads to the count for all vehicles.
 use Rattle.std.proofs.Common.{◌≡◌, ◌≤◌, drop}
 use Rattle.planner_cli.specs.Draw.{used_vehicle_count_after}
 use Rattle.planner_cli.proofs.draw.used_vehicle_count.Given as goal

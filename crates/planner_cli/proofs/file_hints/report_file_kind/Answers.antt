@@ -1,4 +1,4 @@
--- Either the device was read to find out the kind of its file, or it was not called.
+-- Either the device was read to find the kind of its file, or it was not called.
 use Rattle.planner_cli.proofs.ReadLemmas.{not_read}
 use Rattle.planner_cli.proofs.file_hints.report_file_kind.Goals as goal
 

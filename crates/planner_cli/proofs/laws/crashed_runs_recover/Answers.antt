@@ -1,5 +1,5 @@
--- The laws about recovery and about crashed servings apply to runs, both from the opening on and from the
--- moment before it: no acknowledged command is lost, and none whose answer was written.
+-- The laws about recovery and about crashed servings apply to runs, for crashes after the opening and for those
+-- within it: no acknowledged command is lost, and none whose answer was written.
 use Rattle.planner_cli.proofs.CrashLemmas.{input_read, run_headline, run_keeps_answers, served_run_headline, served_run_keeps_answers}
 use Rattle.planner_cli.proofs.laws.crashed_runs_recover.Goals as goal
 

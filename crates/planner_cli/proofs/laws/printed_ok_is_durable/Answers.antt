@@ -1,4 +1,4 @@
--- This follows from the moments at which the bytes of `ok` are written.
+-- When a byte of `ok` is written, the device calls of its command have finished.
 use Rattle.planner_cli.proofs.OkLemmas.{done_before, made_before}
 use Rattle.planner_cli.proofs.laws.printed_ok_is_durable.Goals as goal
 

@@ -1,4 +1,4 @@
--- A strict run is a serving that ends at an answer that reports a failure.
+-- The law about strict servings applies to the serving of the run.
 use Rattle.planner_cli.proofs.laws.strict_runs_end_at_an_answer.Goals as goal
 
 pub returns : goal.returns

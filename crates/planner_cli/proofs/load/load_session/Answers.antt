@@ -21,7 +21,7 @@ returns-clause-begins g c =
       new = new;
       applied = given;
       device = c.close-2.ensures.device;
-      stands = begun c.apply-reply.result.answer old new c.args.command
-          (λ s. g.D.Sectors.honest left → (image : List ℕ) → g.D.Sectors.possible left image → RecoversTo Two image s) empty given.makes c.close-2.ensures.stands;
+      recovers = begun c.apply-reply.result.answer old new c.args.command
+          (λ s. g.D.Sectors.honest left → (image : List ℕ) → g.D.Sectors.possible left image → RecoversTo Two image s) empty given.makes c.close-2.ensures.recovers;
       tells = c.print_answer-reported.ensures;
     })

@@ -11,7 +11,7 @@ returns-then-needs_new_file-clause-begins g c =
       opening.ensures.opens,
       inr (
         sym c.needs_new_file.ensures ∙ c.if-needs_new_file.true,
-        made.ensures.asks ∙ ap (λ requested. (Create, c.args.store.now) ∷ requested) opening.ensures.asks,
+        made.ensures.requests ∙ ap (λ requested. (Create, c.args.store.now) ∷ requested) opening.ensures.requests,
         refl,
         (made.result, made.ensures.opens, c.load_opening-reported.ensures.begins),
       ),
@@ -20,4 +20,4 @@ returns-then-needs_new_file-clause-begins g c =
 pub returns-clause-begins : goal.returns-clause-begins
 returns-clause-begins g c =
     let opening = c.open_store-opening in
-    (opening.result, opening.ensures.opens, inl (sym c.needs_new_file.ensures ∙ c.if-needs_new_file.false, opening.ensures.asks, refl, c.load_opening-reported-2.ensures.begins))
+    (opening.result, opening.ensures.opens, inl (sym c.needs_new_file.ensures ∙ c.if-needs_new_file.false, opening.ensures.requests, refl, c.load_opening-reported-2.ensures.begins))

@@ -1,5 +1,5 @@
--- The result of opening the device after the read is also one for the device as it was before. The same line
--- was printed before it.
+-- The result of opening the device after the read is also one for the device as it was before. The line with the
+-- number of steps was printed between the read and the opening.
 use Rattle.std.proofs.Common.{inr, refl}
 use Rattle.std.proofs.KnownBytes.{Appends-nil}
 use Rattle.std.proofs.lemmas.Result.{MatchResult-weaker}

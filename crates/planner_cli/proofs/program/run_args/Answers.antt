@@ -1,4 +1,4 @@
--- Either the command line was parsed, or there was no memory for that and nothing is printed.
+-- Either the command line was parsed, or memory for that ran out and nothing is printed.
 use Rattle.std.proofs.Common.{◌≡◌, inl, inr, refl}
 use Rattle.command_line.specs.Invocations.{invocation_value}
 use Rattle.clap.specs.Words.{kind_of}

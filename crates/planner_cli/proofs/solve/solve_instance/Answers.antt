@@ -1,4 +1,4 @@
--- The output is determined by the result of the read.
+-- Either the file was read and the result is printed, or it could not be read.
 use Rattle.std.proofs.Common.{inl, inr, subst}
 use Rattle.std.specs.IoError.{error_kind}
 use Rattle.std.specs.Prelude.{MatchResult}

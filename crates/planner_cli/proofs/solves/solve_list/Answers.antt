@@ -1,4 +1,4 @@
--- The output is determined by the result of the read.
+-- Either the list was read and its lines are processed, or it could not be read.
 use Rattle.std.proofs.Common.{◌≡◌, ◌∙◌, [], ap, inl, inr, subst, Ok, Err, refl}
 use Rattle.std.specs.IoError.{error_kind}
 use Rattle.std.proofs.lemmas.Result.{IfOk-weaker}

@@ -1,4 +1,4 @@
--- The output is determined by the results of the reads.
+-- Either both files were read and the timetable is printed, or one of them could not be read.
 use Rattle.std.proofs.Common.{subst, inl, inr}
 use Rattle.std.proofs.KnownBytes.{Appends-nil}
 use Rattle.std.proofs.lemmas.Result.{IfOk-weaker}

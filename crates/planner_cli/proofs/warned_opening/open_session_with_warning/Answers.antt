@@ -1,5 +1,5 @@
--- The result of opening the device after the check is also one for the device as it was before. The same lines
--- were printed before it.
+-- The result of opening the device after the check is also one for the device as it was before. The warning was
+-- printed before the line with the number of steps.
 use Rattle.std.proofs.lemmas.Result.{MatchResult-weaker, on_ok_weaker}
 use Rattle.planner_cli.proofs.WarningLemmas.{at_ok, only_read, refused_first, unwarned, warned_before}
 use Rattle.planner_cli.proofs.OpenLemmas.{opened_after, refused_after}

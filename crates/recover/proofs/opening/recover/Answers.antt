@@ -9,7 +9,7 @@ pub returns-clause-recovered : goal.returns-clause-recovered
 returns-clause-recovered g c = record {
   small = search rules;
   fails = search rules;
-  standing = search rules;
+  well_formed = search rules;
   found = λ honest.
       let image = g.D.Sectors.seen c.args.device.now in
       let loaded = c.in_ok-loaded.loaded in
@@ -18,5 +18,5 @@ returns-clause-recovered g c = record {
       subst (λ (place : Place). IsReplayedImage c.args.version image found.state place found.replayed) (sym is.place)
       (subst (λ (n : ℕ). IsReplayedImage c.args.version image found.state loaded.place n) (sym is.replayed)
       (replay_records c.args.version image loaded.state loaded.commands.items loaded.place
-      (c.in_ok-loaded.ensures.loaded.found honest) c.in_ok-loaded.ensures.loaded.standing.used is.accepted found.state is.leads));
+      (c.in_ok-loaded.ensures.loaded.found honest) c.in_ok-loaded.ensures.loaded.well_formed.used is.accepted found.state is.leads));
 }

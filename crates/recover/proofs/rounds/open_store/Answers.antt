@@ -7,8 +7,8 @@ use Rattle.recover.proofs.rounds.open_store.Goals as goal
 pub returns-in-Ok-clause-opened : goal.returns-in-Ok-clause-opened
 returns-in-Ok-clause-opened c =
     let said = c.in-Ok.ensures in record {
-      stands = said.given tt;
-      alone = λ state stands. said.opens tt state stands;
+      recovers = said.given tt;
+      alone = λ state recovers. said.opens tt state recovers;
       whole = said.whole;
       calls = said.finished;
       faults = said.faults;

@@ -10,11 +10,11 @@ returns-in-Ok-made-clause-makes g c =
     let made = c.in-Ok-made.ensures in
     record {
       state = state;
-      stood = c.in-Ok.ensures.found;
+      old_recovers = c.in-Ok.ensures.found;
       place = made.place;
       moments = λ honest. (made.formats honest).moments;
       holds = λ honest. (made.formats honest).after;
-      stands = λ honest image left. held_new state first_place image ((made.formats honest).after image left);
+      recovers = λ honest image left. held_new state first_place image ((made.formats honest).after image left);
     }
 
 pub returns-in-Err-made-clause-makes : goal.returns-in-Err-made-clause-makes

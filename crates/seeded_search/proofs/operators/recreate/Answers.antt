@@ -12,14 +12,14 @@ use Rattle.seeded_search.proofs.operators.recreate.Goals as goal
 
 pub returns-clause-made : goal.returns-clause-made
 returns-clause-made c =
-    let p = c.args.problem.now in
-    let pins = c.args.pins.now.routes in
+    let p = c.args.context.now.problem.now in
+    let pins = c.args.context.now.pins.now.routes in
     let routes = draft_of c.args.draft.now in
     let words = c.args.words.now in
     let names = c.in_ok-names.names.items in
     let ruined = c.in_ok-names.ensures ∙ ap (drawn (take (1 + pick (slice_index words 1) 8) (drop 2 words))) (c.deref.ensures.value ∙ c.requires.lists.movable) in
     let some : (length c.in_ok-names.names.items == 0) ≡ false = search rules in
-    let done : IsMade (removed c.args.problem.now c.args.pins.now.routes
+    let done : IsMade (removed c.args.context.now.problem.now c.args.context.now.pins.now.routes
     (draft_of c.args.draft.now) c.in_ok-names.names.items) c.in_ok-remove.field-0 c.args.draft.now c.remove.new.self = search rules in
     let all_names : c.deref-4.result.now ≡ c.in_ok-names.names.items ++ c.args.lists.now.unplanned.items = search rules in
     let missing = all_names ∙ ap (λ more. names ++ more) c.requires.lists.unplanned in

@@ -12,12 +12,12 @@ use Rattle.seeded_search.proofs.operators.relocate.Goals as goal
 
 pub returns-clause-made : goal.returns-clause-made
 returns-clause-made c =
-    let p = c.args.problem.now in
-    let pins = c.args.pins.now.routes in
+    let p = c.args.context.now.problem.now in
+    let pins = c.args.context.now.pins.now.routes in
     let routes = draft_of c.args.draft.now in
     let name = c.in-Some.name in
     let some : picked c.args.word (movable_names p pins routes) ≡ Some name = ap (picked c.args.word) (sym c.requires.movable) ∙ (sym c.picked.ensures ∙ c.in-Some.is) in
-    let done : IsMade (removed c.args.problem.now c.args.pins.now.routes (draft_of c.args.draft.now) (c.in-Some.name ∷ [])) c.in_ok-remove.field-0 c.args.draft.now c.remove.new.self = search rules in
+    let done : IsMade (removed c.args.context.now.problem.now c.args.context.now.pins.now.routes (draft_of c.args.draft.now) (c.in-Some.name ∷ [])) c.in_ok-remove.field-0 c.args.draft.now c.remove.new.self = search rules in
     subst (λ o. IfOk c.place_all_if_near.result
     (λ made. IsMadeIfNear p c.args.near.now.deviation c.args.near.now.best.now
     (option_and_then (λ (n : ℕ). option_map (λ (left : List (List ℕ)). placed p pins left n)

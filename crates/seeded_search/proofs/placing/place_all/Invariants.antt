@@ -6,7 +6,7 @@ use Rattle.seeded_search.proofs.placing.place_all.Given as goal
 
 abbrev pub invariant-loop-name : goal.invariant-loop-name
 invariant-loop-name l = record {
-  is : IsDraftOf l.problem l.pins.routes l.draft;
+  is : IsDraftOf l.context.problem.now l.context.pins.now.routes l.draft;
   base : base_of l.draft ≡ base_of l.fn.draft;
-  left : placed_all l.problem l.pins.routes (draft_of l.draft) (drop l.name-index l.names) ≡ placed_all l.problem l.pins.routes (draft_of l.fn.draft) l.names;
+  left : placed_all l.context.problem.now l.context.pins.now.routes (draft_of l.draft) (drop l.name-index l.names) ≡ placed_all l.context.problem.now l.context.pins.now.routes (draft_of l.fn.draft) l.names;
 }

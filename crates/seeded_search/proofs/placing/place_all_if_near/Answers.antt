@@ -10,11 +10,11 @@ use Rattle.seeded_search.proofs.placing.place_all_if_near.Goals as goal
 
 pub returns-then-not-branch-clause-made : goal.returns-then-not-branch-clause-made
 returns-then-not-branch-clause-made c =
-    let p = c.args.problem.now in
-    let pins = c.args.pins.now.routes in
+    let p = c.args.context.now.problem.now in
+    let pins = c.args.context.now.pins.now.routes in
     let so_far = c.loop-name.invariant in
     let made = c.in_ok-place_if_near.ensures.made in
-    let saved : c.from.result ≡ max_saving c.args.problem.now (get_or c.args.names.now c.loop-name.name-index 0) = search rules in
+    let saved : c.from.result ≡ max_saving c.args.context.now.problem.now (get_or c.args.names.now c.loop-name.name-index 0) = search rules in
     let far = all_far c.placements_save_little.ensures p pins c.requires.valid c.args.near.now.deviation c.args.near.now.best.now
     (draft_of c.loop-name.draft) so_far.is.draft c.args.names.now c.loop-name.name-index c.loop-name.following c.loop-name.rest c.from.result 0
     c.loop-name-test.true so_far.following so_far.rest saved (made.far c.if-not-branch.true) in

@@ -6,9 +6,9 @@ use Rattle.seeded_search.proofs.search.continue_search.Given as goal
 
 abbrev pub invariant-loop-done : goal.invariant-loop-done
 invariant-loop-done l = record {
-  seed : l.words.seed ≡ l.seed;
+  seed : l.words.seed ≡ l.context.seed;
   step : l.words.step ≡ l.step + l.done;
-  search_state : IsSearchState l.problem l.pins.routes l.search_state;
-  left : steps l.problem l.pins.routes l.deviation l.seed (l.step + l.done) (l.count - l.done) (search_plans_of l.search_state)
-      ≡ steps l.problem l.pins.routes l.deviation l.seed l.step l.count (search_plans_of l.fn.search_state);
+  search_state : IsSearchState l.context.problem.now l.context.pins.now.routes l.search_state;
+  left : steps l.context.problem.now l.context.pins.now.routes l.context.deviation l.context.seed (l.step + l.done) (l.count - l.done) (search_plans_of l.search_state)
+      ≡ steps l.context.problem.now l.context.pins.now.routes l.context.deviation l.context.seed l.step l.count (search_plans_of l.fn.search_state);
 }

@@ -1,5 +1,5 @@
 -- One more number: its easting is appended.
-use Rattle.std.proofs.Common.{rules, ◌+◌, sym, subst}
+use Rattle.std.proofs.Common.{◌+◌, sym, subst}
 use Rattle.seeded_search.specs.SpatialIndex.{AreEastingsBelow}
 use Rattle.seeded_search.proofs.SpatialIndexLemmas.{one_below}
 use Rattle.seeded_search.proofs.spatial_index.eastings_by_number.Goals as goal

@@ -13,6 +13,6 @@ returns c =
     let moved = c.sort_unstable_by_key.ensures.permutation in
     record {
       each = each_moved p _ _ moved made.each;
-      all = λ n live. have_moved p _ _ moved n (made.all n (c.numbers_are_below_next_number.ensures.stops p n c.eastings_by_number.ensures.valid live) live);
+      all = λ n known. have_moved p _ _ moved n (made.all n (c.numbers_are_below_next_number.ensures.stops p n c.eastings_by_number.ensures.valid known) known);
       ascending = IsNonDecreasingBy-from_sort_by_key (λ (e : Easting). e.east) _ c.sort_unstable_by_key.ensures.sorted (λ a r q k. search rules);
     }

@@ -3,4 +3,4 @@ use Rattle.std.proofs.Common.{◌≡◌, [], All}
 use Rattle.seeded_search.proofs.spatial_index.empty_lists.Given as goal
 
 abbrev pub invariant-loop-number : goal.invariant-loop-number
-invariant-loop-number l = All (λ front. front.items ≡ []) l.nearest_stops.items
+invariant-loop-number l = All (λ stops. stops.items ≡ []) l.nearest_stops.items

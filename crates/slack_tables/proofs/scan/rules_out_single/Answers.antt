@@ -12,7 +12,7 @@ returns-then-is_full c = λ _ depot near places kept d is laden to_depot.
     full-single c.args.limits places c.args.stop.now kept c.args.below d c.args.span.now is laden (c.is_full.ensures c.if-is_full.true)
 
 pub returns : goal.returns
-returns c = λ tells depot near places kept d is laden to_depot.
+returns c = λ holds depot near places kept d is laden to_depot.
     (let below : SFits w64 c.args.below = record { sfits = c.ranges.below.sfits } in
     far-single c.args.limits places depot c.args.stop.now kept c.args.below d c.args.span.now is to_depot
-    (subst (λ x. IsFarSingle c.args.span.now depot c.args.stop.now x) (to_z-of_z w64 c.args.below below) (c.is_far_single.ensures tells depot near)))
+    (subst (λ x. IsFarSingle c.args.span.now depot c.args.stop.now x) (to_z-of_z w64 c.args.below below) (c.is_far_single.ensures holds depot near)))

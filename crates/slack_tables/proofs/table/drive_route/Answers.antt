@@ -18,18 +18,18 @@ loop-k-init c =
     let p = c.args.problem.now in
     let route = c.args.route.now in
     let stops = place p route in
-    let front = c.shared_prefix_length-front.ensures.shared_prefix in
+    let shared = c.shared_prefix_length-prefix_len.ensures.shared_prefix in
     let at = at-begin stops c.problem.inside.depot c.at_depot.result (place-first p route ∙ sym (ap (λ q. q.depot) c.problem.view_is)) c.at_depot.ensures in
     let within = within-begin c.problem.inside.depot c.at_depot.result c.problem.invariant.valid.depot.visit c.at_depot.ensures in
     let first = open-to-more stops 0 c.args.places.now c.set_place.new.places _ (open-to-none stops c.args.places.now) (omega arith) at within c.set_place.ensures in
-    let come : HasReached p route c.shared_prefix_length-front.result c.progress_after_prefix.result = c.progress_after_prefix.ensures route front in
+    let come : HasReached p route c.shared_prefix_length-prefix_len.result c.progress_after_prefix.result = c.progress_after_prefix.ensures route shared in
     record {
       long = c.copy_prefix.ensures.len ∙ (ap length c.set_place.ensures ∙ length-set c.args.places.now 0 _);
-      opened = c.copy_prefix.ensures.opened p route c.requires.prefixes front first;
+      opened = c.copy_prefix.ensures.opened p route c.requires.prefixes shared first;
       come =
-          subst (λ ride. HasReached p route c.shared_prefix_length-front.result (ride_at ride c.stop_after_prefix-from.result.now)) (sym c.ride_of-ride.ensures)
-          (subst (λ s. HasReached p route c.shared_prefix_length-front.result (ride_at (ride_of c.progress_after_prefix.result) s))
-          (come.at.stop ∙ sym (c.stop_after_prefix-from.ensures route front)) come);
+          subst (λ ride. HasReached p route c.shared_prefix_length-prefix_len.result (ride_at ride c.stop_after_prefix-from.result.now)) (sym c.ride_of-ride.ensures)
+          (subst (λ s. HasReached p route c.shared_prefix_length-prefix_len.result (ride_at (ride_of c.progress_after_prefix.result) s))
+          (come.at.stop ∙ sym (c.stop_after_prefix-from.ensures route shared)) come);
       cursor = c.cursor_at-cursor.ensures;
     }
 

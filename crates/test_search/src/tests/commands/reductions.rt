@@ -11,7 +11,7 @@ const BUILT_AND_REDUCED: [(u32, u32, &[u32]); 6] = [
     (1, 1, &[5, 6, 11, 1, 2, 9, 10, 12, 0]),
     (1, 5, &[3, 4, 9, 1, 2, 11, 12, 10, 0]),
     (1, 300, &[3, 4, 9, 1, 2, 11, 12, 10, 0]),
-    // Two vehicles of six, which one cannot replace.
+    // Six vehicles, of which the plan uses two. One vehicle can't replace them.
     (
         6,
         1,

@@ -7,8 +7,8 @@ use command_core::{Command, Job, Refusal, State, apply, check};
 use std::alloc::Global;
 use std::test::Fail;
 
-/// A command on two pairs with a plan, and its refusal. The program splits its commands into operations with
-/// fewer steps.
+/// A command on two pairs with a plan, and its refusal. The program never meets these refusals, since it splits
+/// its commands into operations with fewer steps.
 const COUNT_REFUSALS: [(TestCommand, Option<Refusal>); 9] = [
     (TestCommand::Search(0), Some(Refusal::Range)),
     (TestCommand::Search(256), None),
@@ -21,7 +21,7 @@ const COUNT_REFUSALS: [(TestCommand, Option<Refusal>); 9] = [
     (TestCommand::Reduce(524_289), Some(Refusal::Range)),
 ];
 
-// Returns the refusal on which `check` and `apply` agree, if they do.
+// Returns the refusal of the command, or `None` if it is accepted or `check` and `apply` differ.
 fn refusal(alloc: Global, state: &State, step: TestCommand) -> Option<Refusal> {
     refusal_by_both(alloc, state, &command(step))
 }

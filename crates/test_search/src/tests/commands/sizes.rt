@@ -36,7 +36,7 @@ fn passing_copy(alloc: Global, problem: &Problem, pins: &Pins, plan: &Plan) -> R
     Ok(plan.copy()?)
 }
 
-// Returns the job with this plan, if it passes.
+// Returns the state of the job with this plan as incumbent and as working plan, if the plan passes.
 fn with_plan(alloc: Global, job: Job, plan: Plan) -> Result<State, Fail> {
     match passing_copy(alloc, &job.problem, &job.pins, &plan) {
         Ok(work) => Ok(State::Loaded(with_plans(job, plan, work))),
@@ -133,7 +133,7 @@ fn shown_of_a_copy(alloc: Global, state: &State) -> Result<String, Fail> {
     shown
 }
 
-// Returns whether a copy of the state prints like the state.
+// Returns whether a copy of the state prints the same text as the state.
 fn is_copied(alloc: Global, state: &State) -> Result<bool, Fail> {
     let copied = shown_of_a_copy(alloc, state)?;
     Ok(copied.as_str() == shown(alloc, state)?.as_str())

@@ -13,10 +13,11 @@ use std::test::Fail;
 
 type Insertion = (u64, u64, u64);
 
-/// A place that no insertion has.
+/// The answer if the plan does not pass, or if two computations of the best insertion differ. It is not an
+/// insertion.
 const NO_INSERTION: Insertion = (0, 0, 0);
 
-// Returns the result of `best_insertion` if the plan's tables have the same one.
+// Returns the best insertion if `best_insertion` and the plan's tables agree on it, and otherwise `NO_INSERTION`.
 fn best(alloc: Global, case: &Case, name: u32) -> Result<Option<Insertion>, Fail> {
     if !case.is_passing(alloc)? {
         return Ok(Some(NO_INSERTION));
@@ -96,7 +97,7 @@ const EXAMPLES: [Example; 11] = [
     (UNCOUNTED, &[], &[1, 0, 0, 0], 2, Some((2, 1, 1))),
 ];
 
-// Returns whether the place of the example is the best.
+// Returns whether the insertion of the example is the best one.
 fn is_best(alloc: Global, example: &Example) -> Result<bool, Fail> {
     let (given, pins, plan, name, place) = *example;
     let case = case_of(alloc, given, pins, plan)?;
@@ -113,7 +114,7 @@ fn best_places(rt: HostRuntime) -> Result<(), Fail> {
     Ok(())
 }
 
-// Returns the best places of a request in one route of this many stops.
+// Returns the best insertion of a request into one route with this many stops.
 fn best_in_one_route(
     alloc: Global,
     given: TestProblem,

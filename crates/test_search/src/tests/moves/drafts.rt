@@ -12,7 +12,8 @@ use std::test::Fail;
 #[derive(Clone, Copy)]
 enum Edit {
     Relocate(u32),
-    /// The insertion of an unplanned request, if it adds less than this and uses no empty vehicle.
+    /// The insertion of an unplanned request, if it adds less than this distance. If vehicles count, it uses no
+    /// empty vehicle.
     PlaceBelow(u32, i64),
     Exchange(u32, u32),
     Cross(u64, u64, u64, u64),
@@ -72,7 +73,8 @@ fn stops_of_draft(alloc: Global, draft: &Draft) -> Result<Vec<u32>, Fail> {
     stops_of(alloc, &draft.plan(alloc)?.routes)
 }
 
-/// A problem, a plan, an edit, whether the draft is then accepted, and the expected values.
+/// A problem, a plan, an edit, whether the draft is then accepted, and the expected values, as `left` returns
+/// them.
 type Example = (TestProblem, &'static [u32], Edit, bool, &'static [u32]);
 
 /// Two customers at a distance of 3, and a third between them, at the depot.
@@ -257,7 +259,7 @@ fn left(
     Ok(stops)
 }
 
-// Builds a draft of the plan, makes the edit as `left` does, and returns its values.
+// Builds a draft of the plan, makes the edit as `left` does, and returns the values of `left`.
 fn edit_result(alloc: Global, case: &Case, made: Edit, is_taken: bool) -> Result<Vec<u32>, Fail> {
     if !case.is_passing(alloc)? {
         return Ok(Vec::new(alloc));

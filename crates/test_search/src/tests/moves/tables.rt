@@ -10,8 +10,8 @@ use plan_types::{Pins, Plan, Problem, Route};
 use std::alloc::Global;
 use std::test::Fail;
 
-// Returns whether the tables of the plan `before` become those of the plan `after` when the tables of these vehicles
-// are rebuilt.
+// Returns whether the tables of the plan `before` become those of the plan `after` when the tables of these
+// vehicles are rebuilt.
 fn is_refreshed(
     alloc: Global,
     problem: &Problem,
@@ -152,7 +152,7 @@ const EXAMPLES: [Example; 5] = [
     (TestProblem::Pairs, &[1, 2, 0], &[1, 2, 0], &[]),
 ];
 
-// Returns whether the example's tables are rebuilt as they should be.
+// Returns whether the refreshed tables of the example are those of its changed plan.
 fn is_rebuilt(alloc: Global, example: &Example) -> Result<bool, Fail> {
     let (given, before, after, vehicles) = *example;
     let after = plan_of(alloc, after)?;

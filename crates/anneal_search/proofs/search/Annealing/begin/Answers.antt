@@ -7,11 +7,11 @@ use Rattle.seeded_search.specs.SearchStates.{IsSearchState}
 use Rattle.seeded_search.proofs.SearchLemmas.{stayed_walk}
 use Rattle.anneal_search.proofs.search.Annealing.begin.Goals as goal
 
-pub returns-clause-going : goal.returns-clause-going
-returns-clause-going c =
-    let p = c.args.problem.now in
-    let pins = c.args.pins.now.routes in
-    let nearest_stops : AreNearestStopLists c.args.problem.now c.if-nearest_stops_pay_off.search_state.spatial_index = search rules in
+pub returns-clause-annealing : goal.returns-clause-annealing
+returns-clause-annealing c =
+    let p = c.args.context.now.problem.now in
+    let pins = c.args.context.now.pins.now.routes in
+    let nearest_stops : AreNearestStopLists c.args.context.now.problem.now c.if-nearest_stops_pay_off.search_state.spatial_index = search rules in
     let same : record c.args.search_state { spatial_index = c.if-nearest_stops_pay_off.search_state.spatial_index } ≡ c.if-nearest_stops_pay_off.search_state = search rules in
     let draft : c.if-nearest_stops_pay_off.search_state.draft ≡ c.args.search_state.draft = search rules in
     record {

@@ -1,4 +1,4 @@
--- The record after one more file.
+-- The record has one more file, as its newest entry.
 use Rattle.std.proofs.Common.{◌∷◌}
 use Rattle.auditor_cli.specs.FileOutcome.{given}
 use Rattle.auditor_cli.proofs.file_record.FileRecord.note.Given as goal

@@ -1,4 +1,4 @@
--- A first word that arrived in pieces announces a text if the line does.
+-- The state after the bytes of a line shows whether the words of the line announce a text.
 use Rattle.std.proofs.Common.{◌∙◌, ap}
 use Rattle.command_text.specs.Scanning.{is_announcement}
 use Rattle.command_text.proofs.ScanLemmas.{says_first_word}

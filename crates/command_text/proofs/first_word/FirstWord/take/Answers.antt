@@ -1,4 +1,4 @@
--- After one more piece, the state is that of all pieces together.
+-- The state after these bytes is the state after all bytes so far.
 use Rattle.std.proofs.Common.{◌∙◌, ap, sym}
 use Rattle.command_text.specs.Scanning.{scanned_on}
 use Rattle.command_text.proofs.ScanLemmas.{scanned_append}

@@ -1,4 +1,4 @@
--- The text so far and that of the remaining lists make up the whole text.
+-- The text so far, followed by that of the remaining lists, is the whole text.
 use Rattle.std.proofs.Common.{◌≡◌, ◌+◌, ◌++◌, drop}
 use Rattle.command_text.specs.Showing.{lists_text}
 use Rattle.command_text.proofs.showing.Text.put_lists.Given as goal

@@ -1,4 +1,4 @@
--- The text so far and that of the remaining stops make up the whole text.
+-- The text so far, followed by that of the remaining stops, is the whole text.
 use Rattle.std.proofs.Common.{◌≡◌, ◌++◌, drop}
 use Rattle.sol_text.specs.Written.{customers_text}
 use Rattle.command_text.proofs.showing.Text.put_stops.Given as goal

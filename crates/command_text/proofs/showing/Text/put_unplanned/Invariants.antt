@@ -1,4 +1,4 @@
--- The text so far and that of the remaining names make up the whole text.
+-- The text so far, followed by that of the remaining names, is the whole text.
 use Rattle.std.proofs.Common.{◌≡◌, ◌++◌, drop}
 use Rattle.std.specs.List.{flat_map}
 use Rattle.command_text.specs.Showing.{unplanned_text}

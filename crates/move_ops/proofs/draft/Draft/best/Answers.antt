@@ -1,6 +1,6 @@
 -- `NO_LIMIT` allows each insertion, so the best within it is the best of all.
 use Rattle.std.proofs.Common.{refl}
-use Rattle.move_ops.proofs.Bounding.{unbounded}
+use Rattle.move_ops.proofs.LimitLemmas.{unbounded}
 use Rattle.move_ops.proofs.draft.Draft.best.Goals as goal
 
 pub returns-clause-best : goal.returns-clause-best

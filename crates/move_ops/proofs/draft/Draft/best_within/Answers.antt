@@ -2,7 +2,7 @@
 -- to look at. The request can be inserted at the best place.
 use Rattle.std.proofs.Common.{rules, List, sym, subst}
 use Rattle.slack_tables.specs.Course.{Course}
-use Rattle.move_ops.specs.Choosing.{IsScanLen}
+use Rattle.move_ops.specs.InsertionSearch.{IsScanLen}
 use Rattle.move_ops.specs.Drafts.{draft_of}
 use Rattle.move_ops.specs.Tables.{plan_of}
 use Rattle.move_ops.proofs.PlacementLemmas.{within_put}
@@ -11,7 +11,7 @@ use Rattle.move_ops.proofs.draft.Draft.best_within.Goals as goal
 pub best_within-requires : goal.best_within-requires
 best_within-requires c =
     record {
-      asked = search rules;
+      query = search rules;
       within = search rules;
       max_demands = search rules;
       reach = subst (λ (t : List Course). IsScanLen (plan_of t) c.scan_len.result) (sym (search rules)) c.scan_len.ensures.scan_len;

@@ -5,7 +5,7 @@ use Rattle.route_sched.specs.Route.{AreDistinctStops}
 use Rattle.plan_audit.specs.Passes.{feasible_alone}
 use Rattle.move_ops.specs.Drafts.{draft_of}
 use Rattle.move_ops.specs.Insertion.{is_place_of}
-use Rattle.move_ops.proofs.Placing.{requested_once, feasible_put, not_put}
+use Rattle.move_ops.proofs.ValidPlaceLemmas.{requested_once, feasible_put, not_put}
 use Rattle.move_ops.proofs.draft.Draft.can_insert.Goals as goal
 
 pub is_feasible-requires-clause-once : goal.is_feasible-requires-clause-once

@@ -3,7 +3,7 @@ use Rattle.std.proofs.Common.{rules, ◌∙◌, get_or, ap}
 use Rattle.plan_types.specs.Instance.{IsInstance}
 use Rattle.route_sched.specs.Cost.{has_stop}
 use Rattle.move_ops.specs.Drafts.{DraftState, draft_of}
-use Rattle.move_ops.proofs.Leaving.{has_item, named_stop}
+use Rattle.move_ops.proofs.LeftOutLemmas.{has_item, named_stop}
 use Rattle.move_ops.proofs.draft.Draft.clear_named.Goals as goal
 
 pub clear_request-requires : goal.clear_request-requires

@@ -3,8 +3,8 @@
 use Rattle.std.proofs.Common.{◌≡◌, ◌≤◌, true, sym, arith}
 use Rattle.plan_audit.specs.Passes.{has}
 use Rattle.move_ops.specs.Drafts.{draft_of}
-use Rattle.move_ops.proofs.Drafting.{has_in_vehicle}
-use Rattle.move_ops.proofs.Gathering.{noted_none, noted_old, noted_new}
+use Rattle.move_ops.proofs.DraftLemmas.{has_in_vehicle}
+use Rattle.move_ops.proofs.VehicleListLemmas.{noted_none, noted_old, noted_new}
 use Rattle.move_ops.proofs.draft.Draft.collect_vehicle.Goals as goal
 
 pub returns-then-vehicle-eq0 : goal.returns-then-vehicle-eq0

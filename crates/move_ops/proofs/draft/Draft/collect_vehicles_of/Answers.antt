@@ -6,7 +6,7 @@ use Rattle.plan_types.specs.Request.{stop_in}
 use Rattle.move_ops.specs.Changes.{Collects}
 use Rattle.move_ops.specs.Drafts.{draft_of}
 use Rattle.move_ops.specs.Moves.{is_of_named}
-use Rattle.move_ops.proofs.Gathering.{noted_named}
+use Rattle.move_ops.proofs.VehicleListLemmas.{noted_named}
 use Rattle.move_ops.proofs.draft.Draft.collect_vehicles_of.Goals as goal
 
 pub returns-clause-noted : goal.returns-clause-noted

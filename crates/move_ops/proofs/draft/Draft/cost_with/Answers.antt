@@ -7,8 +7,8 @@ use Rattle.route_sched.specs.Schedule.{route_length}
 use Rattle.slack_tables.specs.Course.{course_route}
 use Rattle.move_ops.specs.Drafts.{draft_of}
 use Rattle.move_ops.specs.Insertion.{with_route}
-use Rattle.move_ops.proofs.Costs.{same_cost}
-use Rattle.move_ops.proofs.Pricing.{part, part_changed}
+use Rattle.move_ops.proofs.InsertionCosts.{same_cost}
+use Rattle.move_ops.proofs.RouteCostLemmas.{part, part_changed}
 use Rattle.move_ops.proofs.draft.Draft.cost_with.Goals as goal
 
 pub overflow_sub-result : goal.overflow_sub-result

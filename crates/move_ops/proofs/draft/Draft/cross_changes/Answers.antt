@@ -6,7 +6,7 @@ use Rattle.plan_audit.specs.Passes.{feasible_alone}
 use Rattle.move_ops.specs.Changes.{with_routes}
 use Rattle.move_ops.specs.Drafts.{draft_of}
 use Rattle.move_ops.specs.declared.changes.Change.{Change}
-use Rattle.move_ops.proofs.Installing.{once_first, once_second, answer, crossed_change}
+use Rattle.move_ops.proofs.InstallLemmas.{once_first, once_second, answer, crossed_change}
 use Rattle.move_ops.proofs.draft.Draft.cross_changes.Goals as goal
 
 pub is_feasible-requires : goal.is_feasible-requires
@@ -16,13 +16,13 @@ is_feasible-requires c =
     let d = c.args.self.now in
     let first = c.args.cuts.first in
     let second = c.args.cuts.second in
-    let front = c.in_ok-first_route.first_route in
-    let back = c.in_ok-second_route.second_route in
+    let one_joined = c.in_ok-first_route.first_route in
+    let other_joined = c.in_ok-second_route.second_route in
     record {
       course = search rules;
       once = subst (AreDistinctStops p) (sym c.as_slice.ensures)
           (once_first c.passing_is_local.ensures c.feasible_alone_decides_feasibility.ensures p pins d c.requires first.vehicle first.stops second.vehicle second.stops
-          (sym (search rules) ∙ c.are_crossable.ensures) front back (search rules) (search rules));
+          (sym (search rules) ∙ c.are_crossable.ensures) one_joined other_joined (search rules) (search rules));
     }
 
 pub returns-then-not-is_feasible-clause-routes : goal.returns-then-not-is_feasible-clause-routes
@@ -32,10 +32,10 @@ returns-then-not-is_feasible-clause-routes c =
     let d = c.args.self.now in
     let first = c.args.cuts.first in
     let second = c.args.cuts.second in
-    let front = c.in_ok-first_route.first_route in
-    let back = c.in_ok-second_route.second_route in
+    let one_joined = c.in_ok-first_route.first_route in
+    let other_joined = c.in_ok-second_route.second_route in
     answer c.passing_is_local.ensures c.feasible_alone_decides_feasibility.ensures p pins d c.requires first.vehicle first.stops second.vehicle second.stops
-    (sym (search rules) ∙ c.are_crossable.ensures) front back (search rules) (search rules) false (feasible_alone p back)
+    (sym (search rules) ∙ c.are_crossable.ensures) one_joined other_joined (search rules) (search rules) false (feasible_alone p other_joined)
     (sym (search rules) ∙ (c.is_feasible.ensures ∙ ap (feasible_alone p) c.as_slice.ensures)) refl
 
 pub is_feasible-requires-2 : goal.is_feasible-requires-2
@@ -45,13 +45,13 @@ is_feasible-requires-2 c =
     let d = c.args.self.now in
     let first = c.args.cuts.first in
     let second = c.args.cuts.second in
-    let front = c.in_ok-first_route.first_route in
-    let back = c.in_ok-second_route.second_route in
+    let one_joined = c.in_ok-first_route.first_route in
+    let other_joined = c.in_ok-second_route.second_route in
     record {
       course = search rules;
       once = subst (AreDistinctStops p) (sym c.as_slice-2.ensures)
           (once_second c.passing_is_local.ensures c.feasible_alone_decides_feasibility.ensures p pins d c.requires first.vehicle first.stops second.vehicle second.stops
-          (sym (search rules) ∙ c.are_crossable.ensures) front back (search rules) (search rules));
+          (sym (search rules) ∙ c.are_crossable.ensures) one_joined other_joined (search rules) (search rules));
     }
 
 pub returns-then-not-is_feasible-2-clause-routes : goal.returns-then-not-is_feasible-2-clause-routes
@@ -61,11 +61,11 @@ returns-then-not-is_feasible-2-clause-routes c =
     let d = c.args.self.now in
     let first = c.args.cuts.first in
     let second = c.args.cuts.second in
-    let front = c.in_ok-first_route.first_route in
-    let back = c.in_ok-second_route.second_route in
-    let one : true ≡ feasible_alone p front = sym (search rules) ∙ (c.is_feasible.ensures ∙ ap (feasible_alone p) c.as_slice.ensures) in
+    let one_joined = c.in_ok-first_route.first_route in
+    let other_joined = c.in_ok-second_route.second_route in
+    let one : true ≡ feasible_alone p one_joined = sym (search rules) ∙ (c.is_feasible.ensures ∙ ap (feasible_alone p) c.as_slice.ensures) in
     answer c.passing_is_local.ensures c.feasible_alone_decides_feasibility.ensures p pins d c.requires first.vehicle first.stops second.vehicle second.stops
-    (sym (search rules) ∙ c.are_crossable.ensures) front back (search rules) (search rules) true false one
+    (sym (search rules) ∙ c.are_crossable.ensures) one_joined other_joined (search rules) (search rules) true false one
     (sym (search rules) ∙ (c.is_feasible-2.ensures ∙ ap (feasible_alone p) c.as_slice-2.ensures))
 
 pub returns-clause-routes : goal.returns-clause-routes
@@ -75,16 +75,16 @@ returns-clause-routes c =
     let d = c.args.self.now in
     let first = c.args.cuts.first in
     let second = c.args.cuts.second in
-    let front = c.in_ok-first_route.first_route in
-    let back = c.in_ok-second_route.second_route in
-    let one : true ≡ feasible_alone p front = sym (search rules) ∙ (c.is_feasible.ensures ∙ ap (feasible_alone p) c.as_slice.ensures) in
-    let two : true ≡ feasible_alone p back = sym (search rules) ∙ (c.is_feasible-2.ensures ∙ ap (feasible_alone p) c.as_slice-2.ensures) in
+    let one_joined = c.in_ok-first_route.first_route in
+    let other_joined = c.in_ok-second_route.second_route in
+    let one : true ≡ feasible_alone p one_joined = sym (search rules) ∙ (c.is_feasible.ensures ∙ ap (feasible_alone p) c.as_slice.ensures) in
+    let two : true ≡ feasible_alone p other_joined = sym (search rules) ∙ (c.is_feasible-2.ensures ∙ ap (feasible_alone p) c.as_slice-2.ensures) in
     let changes : c.push-2.new.self.items
-    ≡ record { vehicle = first.vehicle; route = front } ∷ record { vehicle = second.vehicle; route = back } ∷ [] =
+    ≡ record { vehicle = first.vehicle; route = one_joined } ∷ record { vehicle = second.vehicle; route = other_joined } ∷ [] =
     search rules in
     ap (λ (l : List Change). Some (with_routes (draft_of d) l)) changes
     ∙ answer c.passing_is_local.ensures c.feasible_alone_decides_feasibility.ensures p pins d c.requires first.vehicle first.stops second.vehicle second.stops
-    (sym (search rules) ∙ c.are_crossable.ensures) front back (search rules) (search rules) true true one two
+    (sym (search rules) ∙ c.are_crossable.ensures) one_joined other_joined (search rules) (search rules) true true one two
 
 pub returns-clause-change : goal.returns-clause-change
 returns-clause-change c =
@@ -93,11 +93,11 @@ returns-clause-change c =
     let d = c.args.self.now in
     let first = c.args.cuts.first in
     let second = c.args.cuts.second in
-    let front = c.in_ok-first_route.first_route in
-    let back = c.in_ok-second_route.second_route in
-    let one : true ≡ feasible_alone p front = sym (search rules) ∙ (c.is_feasible.ensures ∙ ap (feasible_alone p) c.as_slice.ensures) in
-    let two : true ≡ feasible_alone p back = sym (search rules) ∙ (c.is_feasible-2.ensures ∙ ap (feasible_alone p) c.as_slice-2.ensures) in
+    let one_joined = c.in_ok-first_route.first_route in
+    let other_joined = c.in_ok-second_route.second_route in
+    let one : true ≡ feasible_alone p one_joined = sym (search rules) ∙ (c.is_feasible.ensures ∙ ap (feasible_alone p) c.as_slice.ensures) in
+    let two : true ≡ feasible_alone p other_joined = sym (search rules) ∙ (c.is_feasible-2.ensures ∙ ap (feasible_alone p) c.as_slice-2.ensures) in
     crossed_change c.passing_is_local.ensures c.feasible_alone_decides_feasibility.ensures p pins d c.requires first.vehicle first.stops second.vehicle
     second.stops
-    (sym (search rules) ∙ c.are_crossable.ensures) front back (search rules) (search rules) c.push-2.new.self.items
+    (sym (search rules) ∙ c.are_crossable.ensures) one_joined other_joined (search rules) (search rules) c.push-2.new.self.items
     (search rules) one two

@@ -1,6 +1,6 @@
 -- If the log is empty the draft is its base, so with the base's cost it is a draft of the same problem and pins.
 use Rattle.std.proofs.Common.{rules, ◌≡◌}
-use Rattle.move_ops.proofs.Drafting.{dropped}
+use Rattle.move_ops.proofs.DraftLemmas.{dropped}
 use Rattle.move_ops.proofs.draft.Draft.discard.Goals as goal
 
 pub returns-clause-is : goal.returns-clause-is

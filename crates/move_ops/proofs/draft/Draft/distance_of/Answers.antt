@@ -5,7 +5,7 @@ use Rattle.slack_tables.specs.Course.{Course, course_route}
 use Rattle.move_ops.specs.Insertion.{route_of}
 use Rattle.move_ops.specs.Tables.{plan_of, AreTablesIn}
 use Rattle.move_ops.proofs.QueryLemmas.{course_at}
-use Rattle.move_ops.proofs.Drafting.{vehicle_route}
+use Rattle.move_ops.proofs.DraftLemmas.{vehicle_route}
 use Rattle.move_ops.proofs.draft.Draft.distance_of.Goals as goal
 
 pub returns : goal.returns

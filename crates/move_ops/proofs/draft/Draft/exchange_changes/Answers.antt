@@ -6,7 +6,7 @@ use Rattle.move_ops.specs.Moves.{counterpart}
 use Rattle.move_ops.specs.Changes.{AreChanges}
 use Rattle.move_ops.specs.Drafts.{DraftState, draft_of}
 use Rattle.move_ops.specs.declared.changes.Change.{Change}
-use Rattle.move_ops.proofs.Applying.{vehicles_within}
+use Rattle.move_ops.proofs.ApplyLemmas.{vehicles_within}
 use Rattle.move_ops.proofs.ExchangeLemmas.{changes_once, exchange_is, exchange_made}
 use Rattle.move_ops.proofs.draft.Draft.exchange_changes.Goals as goal
 

@@ -3,7 +3,7 @@
 use Rattle.std.proofs.Common.{rules, ◌≡◌}
 use Rattle.std.proofs.lemmas.Option.{IfSome_then}
 use Rattle.plan_types.specs.declared.requests.Kind.TheVariants.{Vrp}
-use Rattle.move_ops.proofs.Costing.{exchanged_cost}
+use Rattle.move_ops.proofs.MoveCostLemmas.{exchanged_cost}
 use Rattle.move_ops.proofs.draft.Draft.exchange_cost.Goals as goal
 
 pub returns : goal.returns

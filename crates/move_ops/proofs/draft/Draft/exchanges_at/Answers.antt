@@ -6,7 +6,7 @@ use Rattle.move_ops.specs.Changes.{AreChanges}
 use Rattle.move_ops.specs.Drafts.{draft_of}
 use Rattle.move_ops.specs.Moves.{counterpart}
 use Rattle.move_ops.specs.declared.changes.Change.{Change}
-use Rattle.move_ops.proofs.Gathering.{change_at, exchanged_changes}
+use Rattle.move_ops.proofs.VehicleListLemmas.{change_at, exchanged_changes}
 use Rattle.move_ops.proofs.draft.Draft.exchanges_at.Goals as goal
 
 pub returns : goal.returns

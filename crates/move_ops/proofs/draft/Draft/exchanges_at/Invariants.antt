@@ -2,7 +2,7 @@
 use Rattle.std.proofs.Common.{◌≡◌, map, take}
 use Rattle.move_ops.specs.Drafts.{draft_of}
 use Rattle.move_ops.specs.Moves.{counterpart}
-use Rattle.move_ops.proofs.Gathering.{change_at}
+use Rattle.move_ops.proofs.VehicleListLemmas.{change_at}
 use Rattle.move_ops.proofs.draft.Draft.exchanges_at.Given as goal
 
 abbrev pub invariant-loop-vehicle : goal.invariant-loop-vehicle

@@ -5,7 +5,7 @@ use Rattle.std.specs.List.{AllByRecursion}
 use Rattle.std.proofs.lemmas.List.{length-map}
 use Rattle.std.proofs.lemmas.List.Elements.{recursion_from_All}
 use Rattle.move_ops.specs.declared.changes.Change.{Change}
-use Rattle.move_ops.proofs.Touring.{within_from}
+use Rattle.move_ops.proofs.TourLemmas.{within_from}
 use Rattle.route_sched.specs.Cost.{cost_of, unplanned_count}
 use Rattle.plan_types.specs.declared.plans.Cost.{Cost}
 use Rattle.plan_audit.specs.Passes.{passes}
@@ -13,9 +13,9 @@ use Rattle.slack_tables.specs.Course.{course_route}
 use Rattle.move_ops.specs.Changes.{changes_of, with_routes}
 use Rattle.move_ops.specs.Tables.{plan_of}
 use Rattle.move_ops.specs.Drafts.{draft_of}
-use Rattle.move_ops.proofs.Costs.{same_cost}
-use Rattle.move_ops.proofs.Counting.{plan_small}
-use Rattle.move_ops.proofs.Drafting.{changed}
+use Rattle.move_ops.proofs.InsertionCosts.{same_cost}
+use Rattle.move_ops.proofs.UnplannedCountLemmas.{plan_small}
+use Rattle.move_ops.proofs.DraftLemmas.{changed}
 use Rattle.move_ops.proofs.draft.Draft.install.Goals as goal
 
 pub set_tours-vehicles-requires-clause-small : goal.set_tours-vehicles-requires-clause-small

@@ -4,8 +4,8 @@ use Rattle.std.proofs.Common.{rules, ◌≡◌, ap, ◌∙◌, arith}
 use Rattle.plan_types.specs.declared.plans.Cost.{Cost}
 use Rattle.move_ops.specs.Changes.{changes_of, with_routes}
 use Rattle.move_ops.specs.Drafts.{draft_of}
-use Rattle.move_ops.proofs.Drafting.{named_gone}
-use Rattle.move_ops.proofs.Leaving.{few_left_out}
+use Rattle.move_ops.proofs.DraftLemmas.{named_gone}
+use Rattle.move_ops.proofs.LeftOutLemmas.{few_left_out}
 use Rattle.move_ops.proofs.draft.Draft.install_removal.Goals as goal
 
 pub overflow_add-unplanned : goal.overflow_add-unplanned

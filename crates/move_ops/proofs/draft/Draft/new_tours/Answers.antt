@@ -1,7 +1,7 @@
 -- The tour of one more change is appended.
 use Rattle.std.proofs.Common.{◌∙◌, ap}
 use Rattle.slack_tables.specs.Course.{course_of}
-use Rattle.move_ops.proofs.Touring.{tours_more}
+use Rattle.move_ops.proofs.TourLemmas.{tours_more}
 use Rattle.move_ops.proofs.draft.Draft.new_tours.Goals as goal
 
 pub loop-change-preserved : goal.loop-change-preserved

@@ -3,9 +3,9 @@
 use mir.Val.{SFits}
 use Rattle.std.proofs.Common.{rules, w64, true, false, refl, subst}
 use Rattle.std.proofs.lemmas.Int.{to_z-of_z}
-use Rattle.move_ops.specs.BoundedPlacing.{IsPlacedBelow}
+use Rattle.move_ops.specs.BoundedPlacement.{IsPlacedBelow}
 use Rattle.move_ops.specs.Drafts.{draft_of}
-use Rattle.move_ops.proofs.Bounding.{put_below, kept_below, unnamed_below}
+use Rattle.move_ops.proofs.LimitLemmas.{put_below, kept_below, unnamed_below}
 use Rattle.move_ops.proofs.PlacementLemmas.{named_request}
 use Rattle.move_ops.proofs.draft.Draft.place_below.Goals as goal
 

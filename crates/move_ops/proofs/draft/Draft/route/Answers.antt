@@ -1,6 +1,6 @@
 -- The stops of a vehicle's tour are its route.
 use Rattle.std.proofs.Common.{rules, ◌∙◌}
-use Rattle.move_ops.proofs.Drafting.{vehicle_route}
+use Rattle.move_ops.proofs.DraftLemmas.{vehicle_route}
 use Rattle.move_ops.proofs.draft.Draft.route.Goals as goal
 
 pub returns : goal.returns

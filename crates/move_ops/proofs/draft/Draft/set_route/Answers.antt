@@ -5,7 +5,7 @@ use Rattle.route_sched.specs.Cost.{cost_of, total_length, unplanned_count}
 use Rattle.slack_tables.specs.Course.{Course, course_route}
 use Rattle.move_ops.specs.Drafts.{DraftState, draft_of}
 use Rattle.move_ops.specs.Insertion.{with_route}
-use Rattle.move_ops.proofs.Restoring.{in_log, read_course, base_is, base_stops}
+use Rattle.move_ops.proofs.RestoredRouteLemmas.{in_log, read_course, base_is, base_stops}
 use Rattle.move_ops.proofs.draft.Draft.set_route.Goals as goal
 
 pub index-requires : goal.index-requires

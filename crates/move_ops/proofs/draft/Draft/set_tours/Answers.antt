@@ -3,16 +3,16 @@
 use Rattle.std.proofs.Common.{rules, ◌≡◌, ◌-◌, ◌∷◌, [], length, sym, ap, subst, ◌∙◌, arith, length-append}
 use Rattle.std.specs.Vec.Iter.{into_iter_items}
 use Rattle.std.proofs.lemmas.List.{length-set}
-use Rattle.move_ops.proofs.Pricing.{length_moved, part}
+use Rattle.move_ops.proofs.RouteCostLemmas.{length_moved, part}
 use Rattle.slack_tables.specs.Course.{course_route, IsCourseIn}
 use Rattle.move_ops.specs.Changes.{changes_of, with_routes, AreCourses}
 use Rattle.move_ops.specs.Drafts.{draft_of}
-use Rattle.move_ops.specs.Refreshing.{AreWithin}
+use Rattle.move_ops.specs.FreshTables.{AreWithin}
 use Rattle.route_sched.specs.Cost.{vehicle_count}
 use Rattle.route_sched.specs.Schedule.{route_length}
 use Rattle.move_ops.specs.Tables.{plan_of, AreTablesIn}
-use Rattle.move_ops.proofs.Drafting.{tables_with, plan_with}
-use Rattle.move_ops.proofs.Touring.{routes_with}
+use Rattle.move_ops.proofs.DraftLemmas.{tables_with, plan_with}
+use Rattle.move_ops.proofs.TourLemmas.{routes_with}
 use Rattle.move_ops.proofs.draft.Draft.set_tours.Goals as goal
 
 pub overflow_sub-driven : goal.overflow_sub-driven

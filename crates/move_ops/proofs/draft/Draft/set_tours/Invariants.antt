@@ -6,7 +6,7 @@ use Rattle.route_sched.specs.Cost.{total_length, vehicle_count}
 use Rattle.move_ops.specs.Tables.{AreTablesIn}
 use Rattle.move_ops.specs.Changes.{changes_of, with_routes, AreCourses}
 use Rattle.move_ops.specs.Drafts.{undone, draft_of}
-use Rattle.move_ops.specs.Refreshing.{AreWithin}
+use Rattle.move_ops.specs.FreshTables.{AreWithin}
 use Rattle.move_ops.proofs.draft.Draft.set_tours.Given as goal
 
 abbrev pub invariant-loop-vehicle : goal.invariant-loop-vehicle

@@ -7,9 +7,9 @@ use Rattle.slack_tables.specs.Course.{Course}
 use Rattle.move_ops.specs.Changes.{removals, IsTourIfFeasible}
 use Rattle.move_ops.specs.Drafts.{draft_of}
 use Rattle.move_ops.specs.Insertion.{route_of}
-use Rattle.move_ops.specs.Pairing.{are_paired}
+use Rattle.move_ops.specs.WholePairs.{are_paired}
 use Rattle.move_ops.proofs.RemovalLemmas.{left_of, next, next_at, next_below, next_has}
-use Rattle.move_ops.proofs.Touring.{all_broken, all_more, tours_more}
+use Rattle.move_ops.proofs.TourLemmas.{all_broken, all_more, tours_more}
 use Rattle.move_ops.proofs.draft.Draft.tours_without.Goals as goal
 
 pub feasible_tour-requires-clause-once : goal.feasible_tour-requires-clause-once

@@ -5,7 +5,7 @@ use Rattle.std.specs.List.{list_all}
 use Rattle.plan_audit.specs.Passes.{feasible_alone}
 use Rattle.move_ops.specs.Changes.{removals}
 use Rattle.move_ops.specs.Drafts.{draft_of}
-use Rattle.move_ops.proofs.Touring.{AreToursTo}
+use Rattle.move_ops.proofs.TourLemmas.{AreToursTo}
 use Rattle.move_ops.proofs.draft.Draft.tours_without.Given as goal
 
 abbrev pub invariant-loop-vehicle : goal.invariant-loop-vehicle

@@ -6,9 +6,9 @@ use Rattle.slack_tables.specs.Course.{Course}
 use Rattle.plan_audit.specs.Passes.{has}
 use Rattle.move_ops.specs.Drafts.{undone}
 use Rattle.move_ops.specs.UndoLog.{AreOnce}
-use Rattle.move_ops.specs.Refreshing.{AreWithin}
-use Rattle.move_ops.proofs.Logging.{kept_with, once_without, undone_without}
-use Rattle.move_ops.proofs.Times.{some_same}
+use Rattle.move_ops.specs.FreshTables.{AreWithin}
+use Rattle.move_ops.proofs.LogLemmas.{kept_with, once_without, undone_without}
+use Rattle.move_ops.proofs.OccurrenceLemmas.{some_same}
 use Rattle.move_ops.proofs.draft.Draft.undo.Goals as goal
 
 pub set_hints-requires : goal.set_hints-requires
@@ -28,14 +28,14 @@ invariant_of-self c =
     let old = c.self.inside in
     let taken = c.remove_entry-vehicle.ensures in
     let parts = taken.within (length old.tours.items) c.self.invariant.within in
-    let seated : c.deref_mut.result.now ≡ old.vehicle_hints.items = search rules in
+    let hints : c.deref_mut.result.now ≡ old.vehicle_hints.items = search rules in
     let new : c.swap-tried.new.tours.items ≡ set old.tours.items (c.remove_entry-vehicle.result.0 - 1) c.remove_entry-vehicle.result.1 = search rules in
     let held : (with_items old.vehicle_hints c.set_hints.new.vehicle_hints).items ≡ c.set_hints.new.vehicle_hints =
-    with_items_is old.vehicle_hints c.set_hints.new.vehicle_hints (c.set_hints.ensures.len ∙ (ap length seated ∙ (search rules))) in
+    with_items_is old.vehicle_hints c.set_hints.new.vehicle_hints (c.set_hints.ensures.len ∙ (ap length hints ∙ (search rules))) in
     let used_len = c.used_len_with-self-inside.ensures in
     kept_with old _ c.remove_entry-vehicle.result.0 c.remove_entry-vehicle.result.1 c.set_hints.new.vehicle_hints c.self.invariant new held
     (λ n at. ap (λ l. has l n) (sym c.stops.ensures) ∙ c.set_hints.ensures.stops n at)
-    (λ n at. ap (λ l. slice_get l n) (sym seated) ∙ c.set_hints.ensures.others n at) parts.1.0 parts.1.1 used_len.used_len used_len.vehicle used_len.least
+    (λ n at. ap (λ l. slice_get l n) (sym hints) ∙ c.set_hints.ensures.others n at) parts.1.0 parts.1.1 used_len.used_len used_len.vehicle used_len.least
     (subst (λ (l : List (ℕ × Course)). AreWithin (length old.tours.items) l) (sym taken.rest) parts.0)
     (subst AreOnce (sym taken.rest) (once_without old.log.items c.args.entry c.self.invariant.once)) taken.room c.set_max_demand.ensures
 

@@ -8,8 +8,8 @@ use Rattle.slack_tables.specs.Course.{Course, course_route}
 use Rattle.move_ops.specs.Changes.{used}
 use Rattle.move_ops.specs.Insertion.{with_route}
 use Rattle.move_ops.specs.Tables.{plan_of}
-use Rattle.move_ops.proofs.Drafting.{vehicle_route}
-use Rattle.move_ops.proofs.Pricing.{part, part_changed}
+use Rattle.move_ops.proofs.DraftLemmas.{vehicle_route}
+use Rattle.move_ops.proofs.RouteCostLemmas.{part, part_changed}
 use Rattle.move_ops.proofs.draft.Draft.vehicle_count_with.Goals as goal
 
 pub overflow_sub-result : goal.overflow_sub-result

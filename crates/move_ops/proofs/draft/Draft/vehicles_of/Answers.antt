@@ -5,7 +5,7 @@ use Rattle.std.specs.List.{list_all}
 use Rattle.std.proofs.lemmas.List.{drop_more}
 use Rattle.move_ops.specs.Drafts.{draft_of}
 use Rattle.move_ops.specs.Moves.{is_movable_name}
-use Rattle.move_ops.proofs.Gathering.{found_more}
+use Rattle.move_ops.proofs.VehicleListLemmas.{found_more}
 use Rattle.move_ops.proofs.draft.Draft.vehicles_of.Goals as goal
 
 pub loop-name-preserved : goal.loop-name-preserved

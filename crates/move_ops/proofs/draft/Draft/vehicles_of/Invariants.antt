@@ -5,7 +5,7 @@ use Rattle.std.specs.List.{list_all}
 use Rattle.move_ops.specs.Changes.{AreIn}
 use Rattle.move_ops.specs.Drafts.{draft_of}
 use Rattle.move_ops.specs.Moves.{is_movable_name}
-use Rattle.move_ops.proofs.Gathering.{FoundSoFar}
+use Rattle.move_ops.proofs.VehicleListLemmas.{FoundSoFar}
 use Rattle.move_ops.proofs.draft.Draft.vehicles_of.Given as goal
 
 abbrev pub invariant-loop-name : goal.invariant-loop-name

@@ -5,8 +5,8 @@ use Rattle.std.proofs.lemmas.List.Elements.{recursion_from_All}
 use Rattle.plan_types.specs.Instance.{IsInstance}
 use Rattle.slack_tables.specs.Course.{course_route}
 use Rattle.move_ops.specs.Tables.{plan_of}
-use Rattle.move_ops.specs.Refreshing.{fresh_of, replaced, AreWithin}
-use Rattle.move_ops.proofs.Refreshing.{fleet_of, vehicles_within, refreshed, plan_kept}
+use Rattle.move_ops.specs.FreshTables.{fresh_of, replaced, AreWithin}
+use Rattle.move_ops.proofs.RefreshLemmas.{fleet_of, vehicles_within, refreshed, plan_kept}
 use Rattle.move_ops.proofs.tables.Tables.refresh.Goals as goal
 
 pub replace-requires : goal.replace-requires

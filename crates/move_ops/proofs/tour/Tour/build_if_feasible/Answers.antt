@@ -1,6 +1,6 @@
 -- A route whose pairs are whole is feasible alone exactly when it keeps its limits.
 use Rattle.std.proofs.Common.{rules, ◌∙◌, sym}
-use Rattle.move_ops.proofs.Fitting.{paired}
+use Rattle.move_ops.proofs.FitLemmas.{paired}
 use Rattle.move_ops.proofs.tour.Tour.build_if_feasible.Goals as goal
 
 pub returns-then-not-keeps_limits : goal.returns-then-not-keeps_limits

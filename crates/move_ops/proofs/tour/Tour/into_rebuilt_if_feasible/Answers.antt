@@ -3,7 +3,7 @@
 use Rattle.std.proofs.Common.{rules, ◌≡◌, Option, Some, None, subst}
 use Rattle.slack_tables.specs.Course.{Course}
 use Rattle.move_ops.specs.Changes.{IsTourIfFeasible}
-use Rattle.move_ops.proofs.Touring.{tour_if_feasible}
+use Rattle.move_ops.proofs.TourLemmas.{tour_if_feasible}
 use Rattle.move_ops.proofs.tour.Tour.into_rebuilt_if_feasible.Goals as goal
 
 pub returns-in_default : goal.returns-in_default

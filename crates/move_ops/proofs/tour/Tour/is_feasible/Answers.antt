@@ -1,6 +1,6 @@
 -- A route is feasible alone exactly when it keeps its limits and its pairs are whole, each pickup first.
 use Rattle.std.proofs.Common.{rules, ◌≡◌, ◌∙◌, false}
-use Rattle.move_ops.proofs.Fitting.{within_limits, outside_limits}
+use Rattle.move_ops.proofs.FitLemmas.{within_limits, outside_limits}
 use Rattle.move_ops.proofs.tour.Tour.is_feasible.Goals as goal
 
 pub returns-then-keeps_limits : goal.returns-then-keeps_limits

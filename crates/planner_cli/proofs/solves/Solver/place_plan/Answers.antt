@@ -1,4 +1,4 @@
--- Either the plan is audited and written, or there was no memory for that.
+-- Either the plan is audited and written, or memory for its audit ran out.
 use Rattle.std.proofs.Common.{[], inr, refl}
 use Rattle.std.proofs.lemmas.Result.{IfOk-weaker}
 use Rattle.plan_solve.specs.declared.faults.SolveFault.TheVariants.{OutOfMemory}

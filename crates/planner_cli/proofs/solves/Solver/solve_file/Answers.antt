@@ -1,4 +1,4 @@
--- The output is determined by the result of the read.
+-- Either the instance was read and the result is written, or it could not be read.
 use Rattle.std.proofs.Common.{[], ◌∷◌, Ok, Err, inl, inr, refl, rules, subst}
 use Rattle.std.specs.IoError.{error_kind}
 use Rattle.std.specs.Io.KnownBytes.{Appends}

@@ -1,4 +1,4 @@
--- Either there is a file at the path or none can be made there, or a new file can be made.
+-- Either no new file can be made at the path, or the instance is solved.
 use Rattle.std.proofs.Common.{[], ◌∷◌, Err, inl, refl, subst}
 use Rattle.std.specs.IoError.{error_kind}
 use Rattle.std.proofs.lemmas.Result.{IfOk-weaker}

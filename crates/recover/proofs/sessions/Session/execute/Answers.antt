@@ -11,9 +11,9 @@ use Rattle.recover.specs.declared.denials.Denial.{Denial}
 use Rattle.recover.specs.declared.denials.Denial.TheVariants.{OutOfMemory, DeviceFault}
 use Rattle.recover.specs.Moments.{RunLeaves}
 use Rattle.recover.specs.Sessions.{SessionValue, AllHold, IsSession}
-use Rattle.recover.specs.Applying.{calls_of, place_after, spent, IsDone, IsBetween}
+use Rattle.recover.specs.Applying.{calls_of, place_after, spent_denial, IsDone, IsBetween}
 use Rattle.recover.specs.Committing.{IsInStep, CommitsState, LeavesDevice}
-use Rattle.recover.proofs.SessionLemmas.{undenied, place_fits, stands_of, leaves_ok, leaves_fault, still}
+use Rattle.recover.proofs.SessionLemmas.{undenied, place_fits, held_recover, leaves_ok, leaves_fault, still}
 use Rattle.recover.proofs.sessions.Session.execute.Goals.{After-change_accepted, After-commit}
 use Rattle.recover.proofs.sessions.Session.execute.Goals as goal
 use Rattle.recover.proofs.sessions.Session.execute.Given as given
@@ -33,7 +33,7 @@ stays g c =
     subst (λ (s : SessionValue _). d.honest i.device → Throughout d.clock d.possible_since s.device i.device
     (RunLeaves s.state (command ∷ []) (record { answer = Err OutOfMemory; calls = d.calls i.device } ∷ []))) c.self.view_is
     (λ honest. still d.calls d.honest d.clock d.possible_since d.possible g.met.D.Sectors.only_now i.device honest i.planner
-    (stands_of (d.possible i.device) i.planner i.place (c.self.invariant.durable (whole g c) honest)) command OutOfMemory (d.calls i.device))
+    (held_recover (d.possible i.device) i.planner i.place (c.self.invariant.durable (whole g c) honest)) command OutOfMemory (d.calls i.device))
 
 -- the commit leads from the old state to the next one
 steps : (g : given.Over) (c : After-commit g) → g.D.Sectors.honest c.commit.new.device
@@ -73,7 +73,7 @@ commit-requires g c =
     let command = c.args.command.now in
     let kept = c.self.invariant in record {
       fits = λ recorded. c.accepted_commands_fit_records.ensures c.self.inside.planner command c.in-Ok.ensures.ok.accepted.1 recorded;
-      unspent = subst (λ (s : SessionValue _). spent s.place command ≡ None) (sym c.self.view_is) (undenied c.args.self.now command c.requires).1;
+      unspent = subst (λ (s : SessionValue _). spent_denial s.place command ≡ None) (sym c.self.view_is) (undenied c.args.self.now command c.requires).1;
       room = kept.room;
       first = kept.first;
       last = kept.last;
@@ -85,7 +85,7 @@ invariant_of-self-in-Ok-commit g c =
     let d = g.D.Sectors in
     let i = c.self.inside in
     let command = c.args.command.now in
-    let unspent : spent i.place command ≡ None = subst (λ (s : SessionValue _). spent s.place command ≡ None) (sym c.self.view_is) (undenied c.args.self.now command c.requires).1 in
+    let unspent : spent_denial i.place command ≡ None = subst (λ (s : SessionValue _). spent_denial s.place command ≡ None) (sym c.self.view_is) (undenied c.args.self.now command c.requires).1 in
     let fits = place_fits i.place command unspent c.self.invariant.first c.self.invariant.last c.self.invariant.used in
     subst (λ (p : Place). IsSession d.len d.honest d.possible
     (record { device = c.commit.new.device; state = c.change_accepted.new.self; place = p; is_broken = i.is_broken })) (sym c.in-Ok-commit.ensures.place)

@@ -7,7 +7,7 @@ use Rattle.state_codec.specs.declared.version.Version.TheVariants.{Two}
 use Rattle.recover.specs.Sessions.{SessionValue}
 use Rattle.recover.specs.RecoversTo.{RecoversTo}
 use Rattle.recover.specs.declared.opening.RecoveredState.{RecoveredState}
-use Rattle.recover.proofs.Openings.{opens, stands}
+use Rattle.recover.proofs.Openings.{opens, recovers}
 use Rattle.recover.proofs.sessions.Session.open.Goals as goal
 
 same_fault : (answer : Result RecoveredState StoreFault) (fault cause : StoreFault) → answer ≡ Err fault → answer ≡ Err cause → fault ≡ cause
@@ -19,14 +19,14 @@ returns-in-Ok g c =
     let found = c.in-Ok.found in
     let said = c.in-Ok.ensures in
     record {
-      room = omega (arith, said.recovered.standing.room);
+      room = omega (arith, said.recovered.well_formed.room);
       given = search rules;
       opens = λ honest.
           (let read = subst (λ (s : SessionValue _). g.D.Sectors.honest s.device) c.over.ensures honest in
           opens Two c.images_hold_at_most_one_state.ensures.one c.images_hold_at_most_one_state.ensures.never_both image (Ok c.over.result.state)
-          (subst (λ (s : SessionValue _). RecoversTo Two image s.state) (sym c.over.ensures) (stands Two image found.state found.place found.replayed (said.recovered.found read))));
+          (subst (λ (s : SessionValue _). RecoversTo Two image s.state) (sym c.over.ensures) (recovers Two image found.state found.place found.replayed (said.recovered.found read))));
       replays = search rules;
-      stands = search rules;
+      recovers = search rules;
       reads = search rules;
       moments = search rules;
       honest = search rules;

@@ -12,7 +12,7 @@ use Rattle.seeded_search.proofs.search_state.SearchState.accept.Goals as goal
 -- if both plans leave no request out, the lists are kept
 pub returns-then-is_empty : goal.returns-then-is_empty
 returns-then-is_empty c =
-    let p = c.args.problem.now in
+    let p = c.args.context.now.problem.now in
     let old = base_of c.args.self.now.draft in
     let new = draft_of c.args.self.now.draft in
     let empty : length c.args.self.now.lists.unplanned.items ≡ 0 = search rules in
@@ -22,12 +22,12 @@ returns-then-is_empty c =
     record {
       base = c.accept.ensures.base;
       settled = c.accept.ensures.draft;
-      draft = c.accept.ensures.is p c.args.pins.now.routes c.requires.draft;
+      draft = c.accept.ensures.is p c.args.context.now.pins.now.routes c.requires.draft;
       incumbent = search rules;
       best = search rules;
       used_len = search rules;
       lists = record {
-        movable = c.requires.lists.movable ∙ movable_stay p c.args.pins.now.routes old new before after;
+        movable = c.requires.lists.movable ∙ movable_stay p c.args.context.now.pins.now.routes old new before after;
         unplanned = c.requires.lists.unplanned ∙ (before ∙ sym after);
       };
       at = search rules;
@@ -37,8 +37,8 @@ returns-then-is_empty c =
 -- if the draft is the base, the lists are kept
 pub returns-then-is_base : goal.returns-then-is_base
 returns-then-is_base c =
-    let p = c.args.problem.now in
-    let pins = c.args.pins.now.routes in
+    let p = c.args.context.now.problem.now in
+    let pins = c.args.context.now.pins.now.routes in
     let same : draft_of c.args.self.now.draft ≡ base_of c.args.self.now.draft = search rules in
     record {
       base = c.accept.ensures.base;

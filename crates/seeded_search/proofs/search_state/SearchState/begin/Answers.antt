@@ -1,7 +1,7 @@
 -- A search begins with a draft that is its base, with that draft's lists, and with an incumbent in which no
 -- vehicle after the last has stops.
 use Rattle.std.proofs.Common.{rules, ◌≡◌, length, ap, arith}
-use Rattle.move_ops.proofs.Drafting.{idle_after_all}
+use Rattle.move_ops.proofs.DraftLemmas.{idle_after_all}
 use Rattle.seeded_search.proofs.search_state.SearchState.begin.Goals as goal
 
 pub returns-clause-search_state : goal.returns-clause-search_state

@@ -9,8 +9,8 @@ use Rattle.seeded_search.proofs.search_state.SearchState.settle.Goals as goal
 
 pub returns-then-le-clause-search_state : goal.returns-then-le-clause-search_state
 returns-then-le-clause-search_state c =
-    let p = c.args.problem.now in
-    let pins = c.args.pins.now.routes in
+    let p = c.args.context.now.problem.now in
+    let pins = c.args.context.now.pins.now.routes in
     let followed = c.in_ok-improve.ensures in
     let taken = c.in_ok-accept.ensures in
     noted_walk p pins c.accept.new.self true (accepted_search_state p pins c.improve.new.self c.accept.new.self taken followed.keeps.incumbent followed.keeps.best followed.keeps.idle followed.keeps.spatial_index)
@@ -18,4 +18,4 @@ returns-then-le-clause-search_state c =
 
 pub returns-clause-search_state : goal.returns-clause-search_state
 returns-clause-search_state c = on_ok_weaker c.accept-2.result
-    (λ taken. accepted_search_state c.args.problem.now c.args.pins.now.routes c.args.self.now c.accept-2.new.self taken c.requires.incumbent c.requires.best c.requires.idle c.requires.spatial_index) c.accept-2.ensures
+    (λ taken. accepted_search_state c.args.context.now.problem.now c.args.context.now.pins.now.routes c.args.self.now c.accept-2.new.self taken c.requires.incumbent c.requires.best c.requires.idle c.requires.spatial_index) c.accept-2.ensures

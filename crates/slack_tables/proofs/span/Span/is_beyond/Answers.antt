@@ -8,7 +8,7 @@ use Rattle.slack_tables.proofs.SpanLemmas.{apart-le}
 use Rattle.slack_tables.proofs.span.Span.is_beyond.Goals as goal
 
 pub returns : goal.returns
-returns c = λ tells s inside.
+returns c = λ holds s inside.
     (let w : SFits w32 c.args.self.now.west = search rules in
     let x : SFits w32 c.args.center.now.x = search rules in
     let y : SFits w32 c.args.center.now.y = search rules in
@@ -19,5 +19,5 @@ returns c = λ tells s inside.
     let near = apart-le c.distances_are_nearest_roots.ensures c.args.center.now s c.gap-dx.result c.gap-dy.result c.longer_side.result
     c.longer_side.ensures.below
     (omega (arith, ints)) (omega (arith, ints)) in
-    let far = ltb-true c.from.result c.longer_side.result tells in
+    let far = ltb-true c.from.result c.longer_side.result holds in
     omega (arith, c.from.ensures))

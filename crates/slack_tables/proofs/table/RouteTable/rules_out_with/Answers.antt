@@ -17,7 +17,7 @@ use Rattle.slack_tables.proofs.SpanLemmas.{to_depot, laden, far-pair}
 use Rattle.slack_tables.proofs.table.RouteTable.rules_out_with.Goals as goal
 
 pub returns-in-Single : goal.returns-in-Single
-returns-in-Single c = λ tells p name kept valid is named.
+returns-in-Single c = λ holds p name kept valid is named.
     (let course = c.args.self.now in
     let places = c.self.inside.places.items in
     let inside = c.self.inside in
@@ -29,7 +29,7 @@ returns-in-Single c = λ tells p name kept valid is named.
     let near : c.args.ways.now.to_depot ≤ distance inside.depot s =
     subst (λ (q : Course). c.args.ways.now.to_depot ≤ distance q.depot s) (sym c.self.view_is) floors.below in
     let out = subst (λ x. RulesOut inside.limits inside.span inside.depot s x) (to_z-of_z w64 c.args.below fits)
-    (c.rules_out_single.ensures tells inside.depot near) in
+    (c.rules_out_single.ensures holds inside.depot near) in
     let none = out places kept d c.self.invariant.1 (laden course places table) (to_depot (course_within inside) places c.self.invariant.0) in
     let first = subst (λ (q : Course). IsFirstOf (AddsSingle (limits_of q) places s kept c.args.below d) None) c.self.view_is none in
     subst (λ r. IsBestAddition p (course_route course) r kept c.args.below None) (sym c.in-Single.is)
@@ -37,7 +37,7 @@ returns-in-Single c = λ tells p name kept valid is named.
     (named ∙ ap (λ r. Some r) c.in-Single.is) first))
 
 pub returns-in-Pair : goal.returns-in-Pair
-returns-in-Pair c = λ tells p name kept valid is named.
+returns-in-Pair c = λ holds p name kept valid is named.
     (let course = c.args.self.now in
     let places = c.self.inside.places.items in
     let inside = c.self.inside in
@@ -49,7 +49,7 @@ returns-in-Pair c = λ tells p name kept valid is named.
     let floors = subst (λ r. AreFloors course.depot r c.args.ways.now) c.in-Pair.is c.requires in
     let near : AreFloorsOfPair inside.depot a b c.args.ways.now = subst (λ (q : Course). AreFloorsOfPair q.depot a b c.args.ways.now)
     (sym c.self.view_is) floors.below in
-    let far = subst (λ x. IsFarPair inside.span inside.depot a b x) (to_z-of_z w64 c.args.below fits) (c.is_far_pair.ensures tells inside.depot near) in
+    let far = subst (λ x. IsFarPair inside.span inside.depot a b x) (to_z-of_z w64 c.args.below fits) (c.is_far_pair.ensures holds inside.depot near) in
     let none = far-pair inside.limits places inside.depot a b kept c.args.below d inside.span
     (linked course places table) c.self.invariant.1 (to_depot (course_within inside) places c.self.invariant.0) far in
     let first = subst (λ (q : Course). IsFirstOf (AddsPair (limits_of q) places a b kept c.args.below d) None) c.self.view_is none in

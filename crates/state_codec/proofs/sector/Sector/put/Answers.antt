@@ -17,8 +17,8 @@ module _ (c : goal.After-self-1) where
   short : used + k ≤ 512
   unfolding used k
   short =
-      let front : length (take used c.self.inside.bytes) ≡ used = omega (arith, length-take used c.self.inside.bytes, c.self.told, c.self.invariant.used) in
-      fits used (length c.args.self.now) k c.requires (ap length (sym c.self.view_is) ∙ front)
+      let prefix : length (take used c.self.inside.bytes) ≡ used = omega (arith, length-take used c.self.inside.bytes, c.self.told, c.self.invariant.used) in
+      fits used (length c.args.self.now) k c.requires (ap length (sym c.self.view_is) ∙ prefix)
 
 pub invariant_of-self : goal.invariant_of-self
 unfolding used k

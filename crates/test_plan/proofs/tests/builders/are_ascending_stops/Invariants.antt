@@ -1,4 +1,4 @@
--- All numbers are known and in ascending order if the remaining ones are.
+-- All numbers belong to stops and ascend exactly if the remaining ones do.
 use Rattle.std.proofs.Common.{◌≡◌, drop}
 use Rattle.test_plan.proofs.AscendingLemmas.{rises_live}
 use Rattle.test_plan.proofs.tests.builders.are_ascending_stops.Given as goal

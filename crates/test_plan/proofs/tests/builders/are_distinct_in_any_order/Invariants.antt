@@ -1,4 +1,4 @@
--- All stops are known and distinct if the remaining ones are.
+-- All stops are known and distinct exactly if the remaining ones are.
 use Rattle.std.proofs.Common.{◌≡◌, length}
 use Rattle.test_plan.proofs.LiveLemmas.{live_once}
 use Rattle.test_plan.proofs.tests.builders.are_distinct_in_any_order.Given as goal

@@ -1,4 +1,4 @@
--- Routes that pass are a plan.
+-- Routes that pass the audit are a plan.
 use Rattle.std.proofs.Common.{subst}
 use Rattle.plan_audit.specs.Verdict.{planned, IsVerdict}
 use Rattle.test_text.proofs.tests.solutions.is_plan.Goals as goal

@@ -1,4 +1,4 @@
--- The numbers so far are vehicles
+-- The numbers so far are those of vehicles.
 use Rattle.std.proofs.Common.{◌≤◌, ◌<◌, ℕ, slice_index_or}
 use Rattle.test_search.proofs.tests.moves.tables.are_vehicles.Given as goal
 

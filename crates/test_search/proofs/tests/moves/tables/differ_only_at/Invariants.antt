@@ -1,4 +1,4 @@
--- Each vehicle so far that is not in `vehicles` has the same route in both plans
+-- Each vehicle so far that is not in `vehicles` has the same route in both plans.
 use Rattle.std.proofs.Common.{◌≡◌, ◌<◌, ℕ, false}
 use Rattle.plan_audit.specs.Passes.{has}
 use Rattle.move_ops.specs.Insertion.{route_of}

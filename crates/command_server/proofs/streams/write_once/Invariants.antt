@@ -1,6 +1,0 @@
--- At first nothing was written.
-use Rattle.std.specs.Io.KnownBytes.{Keeps}
-use Rattle.command_server.proofs.streams.write_once.Given as goal
-
-abbrev pub invariant-loop : goal.invariant-loop
-invariant-loop g l = Keeps (g.W.Write.contents l.fn.writer) (g.W.Write.contents l.writer)

@@ -1,6 +1,0 @@
--- A new record has no system call.
-use Rattle.std.proofs.Common.{[]}
-use Rattle.file_disk.proofs.system.SystemCallLog.new.Given as goal
-
-abbrev pub ghost-of : goal.ghost-of
-ghost-of a = []
