@@ -61,7 +61,7 @@ one_some : (test : ℕ → List ℕ → Option PlaceFault) (route : List ℕ) (o
 one_some test route None is some = absurd (let h : false ≡ true = some in cc)
 one_some test route (Some t) is some = (record { route = 0; place = t.place; stop = t.stop }, rw (sym is) refl)
 
-module _ (p : Instance) (route : List ℕ) (are_distinct : AreDistinctStops p route) where
+module _ (p : Instance) (route : List ℕ) (live : AreDistinctStops p route) where
   once : (r i n : ℕ) → IsRepeated p (route ∷ []) r i n → ⊥
   once r i n b =
       let here = b.0 in
@@ -76,7 +76,7 @@ module _ (p : Instance) (route : List ℕ) (are_distinct : AreDistinctStops p ro
       twice one other (suc i) zero is are at on ne = none_some n on
       twice one other (suc i) (suc j) is are at on ne =
           let e =
-          distinct_places route i j n are_distinct.distinct (subst (λ (l : List ℕ). slice_get l i ≡ Some n) (sym is) at)
+          distinct_places route i j n live.distinct (subst (λ (l : List ℕ). slice_get l i ≡ Some n) (sym is) at)
           (subst (λ (l : List ℕ). slice_get l j ≡ Some n) (sym are) on) in
           ne (omega arith)
 

@@ -20,7 +20,7 @@ use Rattle.plan_audit.specs.Verdict.{Subject, routes_of, KeepsRules}
 use Rattle.plan_audit.specs.declared.rules.Rule.TheVariants.{Load, Late, LateReturn}
 use Rattle.plan_audit.proofs.LocalLemmas.{all_items}
 use Rattle.plan_audit.proofs.StepLemmas.{none_of}
-use Rattle.plan_audit.proofs.TimeLemmas.{has_stop_at_items, route_in, true_from}
+use Rattle.plan_audit.proofs.TimeLemmas.{standing_in, route_in, true_from}
 use Rattle.plan_audit.proofs.VerdictLemmas.{keeps_none, keeps_more, keeps_rules}
 use Rattle.plan_audit.proofs.VisitLemmas.{nth-range}
 
@@ -80,7 +80,7 @@ module _ (p : Instance) (routes : List (List ℕ)) (each : (k : ℕ) → k < len
 
   none_heavy : (r i n : ℕ) → IsOverloaded p routes r i n → ⊥
   none_heavy r i n b =
-      let t = has_stop_at_items routes b.0 r i n b.1 b.2 in
+      let t = standing_in routes b.0 r i n b.1 b.2 in
       let within = slice_get_within b.0 t.1 n t.5 in
       let following : i ≡ t.1 + 1 = t.3 ∙ sym (add-one t.1) in
       light p b.0 (kept_at t.0 b.0 t.4) (omega arith) t.1 (omega arith) (true_from _ (subst (λ i. T (int_lt (pos p.capacity) (load p b.0 i))) following (b.3.lt)))
@@ -88,7 +88,7 @@ module _ (p : Instance) (routes : List (List ℕ)) (each : (k : ℕ) → k < len
   none_late : (r i n : ℕ) → IsLate p routes r i n → ⊥
   none_late r i n b =
       let route = b.1.0 in
-      let t = has_stop_at_items routes route r i n b.1.1 b.1.2 in
+      let t = standing_in routes route r i n b.1.1 b.1.2 in
       let within = slice_get_within route t.1 n t.5 in
       let following : i ≡ t.1 + 1 = t.3 ∙ sym (add-one t.1) in
       in_time p route (kept_at t.0 route t.4) (omega arith) t.1 (omega arith) b.0 (subst (λ i. (place p route i).latest < start p route i) following b.1.3)

@@ -31,10 +31,10 @@ module _ (test : ℕ → List ℕ → ℕ → ℕ → Option ℕ) (routes : List
       let reported = reported_found (test f.route (first.item)) (first.item) (record { place = f.place; stop = f.stop }) (first.reported) in
       let at' = reported.place in
       let index' : reported.index ≡ f.place = omega arith in
-      let item_at_index : slice_get routes f.route ≡ Some (first.item) = subst (λ r. slice_get routes r ≡ Some (first.item)) index (first.item_at_index) in
-      let item_at_index' : slice_get (first.item) f.place ≡ Some (reported.item) = subst (λ i. slice_get (first.item) i ≡ Some (reported.item)) index' (reported.item_at_index) in (
-        (first.item, reported.item, item_at_index, item_at_index', reported.reported),
-        λ r i s t. least first reported index index' item_at_index item_at_index' r i s t (first_place_fault (test r t.0) 0 t.0) refl,
+      let stands : slice_get routes f.route ≡ Some (first.item) = subst (λ r. slice_get routes r ≡ Some (first.item)) index (first.stands) in
+      let stands' : slice_get (first.item) f.place ≡ Some (reported.item) = subst (λ i. slice_get (first.item) i ≡ Some (reported.item)) index' (reported.stands) in (
+        (first.item, reported.item, stands, stands', reported.reported),
+        λ r i s t. least first reported index index' stands stands' r i s t (first_place_fault (test r t.0) 0 t.0) refl,
       )
     where
       least : (first : IsFirst (place_fault_by test) 0 routes (f.route, record { place = f.place; stop = f.stop }))
@@ -42,14 +42,14 @@ module _ (test : ℕ → List ℕ → ℕ → ℕ → Option ℕ) (routes : List
           → first.index ≡ f.route → reported.index ≡ f.place
           → slice_get routes f.route ≡ Some (first.item) → slice_get (first.item) f.place ≡ Some (reported.item)
           → (r i s : ℕ) (t : Spot test routes r i s) (o : Option PlaceFault) → first_place_fault (test r t.0) 0 t.0 ≡ o → IsNotAfter f.route f.place f.stop r i s
-      least first reported index index' item_at_index item_at_index' r i s t None e = absurd (reported_somewhere r i s t e)
-      least first reported index index' item_at_index item_at_index' r i s t (Some u) e =
+      least first reported index index' stands stands' r i s t None e = absurd (reported_somewhere r i s t e)
+      least first reported index index' stands stands' r i s t (Some u) e =
           let le = least_at (place_fault_by test) routes (f.route, record { place = f.place; stop = f.stop }) first r t.0 u t.2 e in
           elim (cases_lt f.route r) [
             | inl lt ↦ inl lt
             | inr ge ↦ (
                 let here : f.route ≡ r = omega arith in
-                let same : first.item ≡ t.0 = same_Some _ _ (sym (subst (λ q. slice_get routes q ≡ Some (first.item)) here item_at_index) ∙ t.2) in
+                let same : first.item ≡ t.0 = same_Some _ _ (sym (subst (λ q. slice_get routes q ≡ Some (first.item)) here stands) ∙ t.2) in
                 let on : slice_get (first.item) i ≡ Some t.1 = subst (λ (q : List ℕ). slice_get q i ≡ Some t.1) (sym same) t.3 in
                 let says : test f.route (first.item) i t.1 ≡ Some s =
                 subst (λ q. test q (first.item) i t.1 ≡ Some s) (sym here) (subst (λ (q : List ℕ). test r q i t.1 ≡ Some s) (sym same) t.4) in
@@ -58,7 +58,7 @@ module _ (test : ℕ → List ℕ → ℕ → ℕ → Option ℕ) (routes : List
                   | inl lt ↦ inr (here, inl lt)
                   | inr ge' ↦ (
                       let here' : f.place ≡ i = omega arith in
-                      let same' : reported.item ≡ t.1 = same_Some _ _ (sym (subst (λ q. slice_get (first.item) q ≡ Some (reported.item)) here' item_at_index') ∙ on) in
+                      let same' : reported.item ≡ t.1 = same_Some _ _ (sym (subst (λ q. slice_get (first.item) q ≡ Some (reported.item)) here' stands') ∙ on) in
                       let says' : test f.route (first.item) f.place (reported.item) ≡ Some s =
                       subst (λ q. test f.route (first.item) q (reported.item) ≡ Some s) (sym here')
                       (subst (λ q. test f.route (first.item) i q ≡ Some s) (sym same') says) in

@@ -20,7 +20,7 @@ pub record IsFirst {X Y : Type 0} (test : ℕ → X → Option Y) (k : ℕ) (xs 
   pub index : ℕ
   pub item : X
   pub place : a.0 ≡ k + index
-  pub item_at_index : slice_get xs index ≡ Some item
+  pub stands : slice_get xs index ≡ Some item
   pub reported : test a.0 item ≡ Some a.1
   pub least : (j : ℕ) (x : X) (y : Y) → slice_get xs j ≡ Some x → test (k + j) x ≡ Some y → index ≤ j
 
@@ -62,7 +62,7 @@ module _ {X Y : Type 0} (test : ℕ → X → Option Y) where
             index = suc (later.index);
             item = later.item;
             place = (let e = later.place in omega arith);
-            item_at_index = later.item_at_index;
+            stands = later.stands;
             reported = later.reported;
             least = later-least k x xs a later o;
           }
@@ -73,7 +73,7 @@ module _ {X Y : Type 0} (test : ℕ → X → Option Y) where
             index = 0;
             item = x;
             place = (let e = ap (λ (p : ℕ × Y). p.0) same in omega arith);
-            item_at_index = refl;
+            stands = refl;
             reported = subst (λ (p : ℕ × Y). test p.0 x ≡ Some p.1) same o;
             least = λ j z y at reported. omega arith;
           }
@@ -95,19 +95,19 @@ pub map-map : {X Y Z : Type 0} (f : X → Y) (g : Y → Z) (o : Option X) → op
 map-map f g None = refl
 map-map f g (Some x) = refl
 
-as_place_fault : ℕ × ℕ → PlaceFault
-as_place_fault a = record { place = a.0; stop = a.1 }
+told_of : ℕ × ℕ → PlaceFault
+told_of a = record { place = a.0; stop = a.1 }
 
 fault_of : ℕ × PlaceFault → Fault
 fault_of a = record { route = a.0; place = a.1.place; stop = a.1.stop }
 
-place_is : (test : ℕ → ℕ → Option ℕ) (k : ℕ) (ns : List ℕ) → first_place_fault test k ns ≡ option_map as_place_fault (first_answer test k ns)
-unfolding first_answer as_place_fault
+place_is : (test : ℕ → ℕ → Option ℕ) (k : ℕ) (ns : List ℕ) → first_place_fault test k ns ≡ option_map told_of (first_answer test k ns)
+unfolding first_answer told_of
 place_is test k [] = refl
 place_is test k (n ∷ ns) =
     ap (option_or (option_map (λ s. record { place = k; stop = s }) (test k n))) (place_is test (k + 1) ns)
-    ∙ ap (λ (o : Option PlaceFault). option_or o (option_map as_place_fault (first_answer test (k + 1) ns))) (sym (map-map (λ s. (k, s)) as_place_fault (test k n)))
-    ∙ option_or-map as_place_fault (option_map (λ s. (k, s)) (test k n)) (first_answer test (k + 1) ns)
+    ∙ ap (λ (o : Option PlaceFault). option_or o (option_map told_of (first_answer test (k + 1) ns))) (sym (map-map (λ s. (k, s)) told_of (test k n)))
+    ∙ option_or-map told_of (option_map (λ s. (k, s)) (test k n)) (first_answer test (k + 1) ns)
 
 route_is : (test : ℕ → List ℕ → Option PlaceFault) (k : ℕ) (rs : List (List ℕ)) → first_fault test k rs ≡ option_map fault_of (first_answer test k rs)
 unfolding first_answer fault_of
@@ -130,13 +130,13 @@ fault_found test rs f is = by (first_answer test 0 rs) refl
         subst (λ (f : Fault). IsFirst test 0 rs (f.route, record { place = f.place; stop = f.stop })) same (first_found test 0 rs a e)
 
 pub reported_found : (test : ℕ → ℕ → Option ℕ) (ns : List ℕ) (t : PlaceFault) → first_place_fault test 0 ns ≡ Some t → IsFirst test 0 ns (t.place, t.stop)
-unfolding as_place_fault
+unfolding told_of
 reported_found test ns t is = by (first_answer test 0 ns) refl
   where
     by : (o : Option (ℕ × ℕ)) → first_answer test 0 ns ≡ o → IsFirst test 0 ns (t.place, t.stop)
-    by None e = absurd (none_some t (sym (place_is test 0 ns ∙ ap (option_map as_place_fault) e) ∙ is))
+    by None e = absurd (none_some t (sym (place_is test 0 ns ∙ ap (option_map told_of) e) ∙ is))
     by (Some a) e =
-        let same : as_place_fault a ≡ t = same_Some _ _ (sym (place_is test 0 ns ∙ ap (option_map as_place_fault) e) ∙ is) in
+        let same : told_of a ≡ t = same_Some _ _ (sym (place_is test 0 ns ∙ ap (option_map told_of) e) ∙ is) in
         subst (λ (t : PlaceFault). IsFirst test 0 ns (t.place, t.stop)) same (first_found test 0 ns a e)
 
 pub map-none : {X Y : Type 0} (g : X → Y) (o : Option X) → option_map g o ≡ None → o ≡ None
@@ -155,7 +155,7 @@ fault_nothing test rs is j r at =
 pub reported_nothing : (test : ℕ → ℕ → Option ℕ) (ns : List ℕ) → first_place_fault test 0 ns ≡ None → (j n : ℕ) → slice_get ns j ≡ Some n → test j n ≡ None
 unfolding AnswersNothing
 reported_nothing test ns is j n at =
-    subst (λ i. test i n ≡ None) (sym (zero-plus j)) (first_nothing test 0 ns (map-none as_place_fault _ (sym (place_is test 0 ns) ∙ is)) j n at)
+    subst (λ i. test i n ≡ None) (sym (zero-plus j)) (first_nothing test 0 ns (map-none told_of _ (sym (place_is test 0 ns) ∙ is)) j n at)
 
 pub least_at : {X Y : Type 0} (test : ℕ → X → Option Y) (xs : List X) (a : ℕ × Y) (first : IsFirst test 0 xs a) (j : ℕ) (x : X) (y : Y)
     → slice_get xs j ≡ Some x → test j x ≡ Some y → first.index ≤ j

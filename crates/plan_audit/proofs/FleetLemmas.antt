@@ -131,7 +131,7 @@ record IsBeyond (left k : ℕ) (rs : List (List ℕ)) (m : ℕ) : Type 0 where
   index : ℕ
   route : List ℕ
   place : m ≡ k + index
-  item_at_index : slice_get rs index ≡ Some route
+  stands : slice_get rs index ≡ Some route
   used : 0 < length route
   count : used_count (take (suc index) rs) ≡ left + 1
 
@@ -149,7 +149,7 @@ beyond_found left k (x ∷ xs) m is =
           index = suc (later.index);
           route = later.route;
           place = (let p = later.place in omega arith);
-          item_at_index = later.item_at_index;
+          stands = later.stands;
           used = later.used;
           count = used-empty x (take (suc (later.index)) xs) e ∙ later.count;
         }
@@ -161,7 +161,7 @@ beyond_found left k (x ∷ xs) m is =
           index = 0;
           route = x;
           place = omega arith;
-          item_at_index = refl;
+          stands = refl;
           used = positive (length x) e;
           count = omega arith;
         }
@@ -174,7 +174,7 @@ beyond_found left k (x ∷ xs) m is =
           index = suc (later.index);
           route = later.route;
           place = (let p = later.place in omega arith);
-          item_at_index = later.item_at_index;
+          stands = later.stands;
           used = later.used;
           count = omega arith;
         }
@@ -215,7 +215,7 @@ module _ (p : Instance) (routes : List (List ℕ)) where
           refl,
           refl,
           subst (λ x. used_count (take (suc x) routes) ≡ p.fleet + 1) here (found.count),
-          (found.route, subst (λ x. slice_get routes x ≡ Some (found.route)) here (found.item_at_index), found.used),
+          (found.route, subst (λ x. slice_get routes x ≡ Some (found.route)) here (found.stands), found.used),
         );
         least = λ q j t b. (
             let at = route_in routes b.3.0 q b.3.1 in

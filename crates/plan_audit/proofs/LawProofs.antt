@@ -37,7 +37,7 @@ use Rattle.plan_audit.proofs.AloneLemmas.{only_route, not_split, in_route}
 use Rattle.plan_audit.proofs.FleetLemmas.{fleet_found, none_beyond, used-within}
 use Rattle.plan_audit.proofs.PinLemmas.{pin_found, pins_kept}
 use Rattle.plan_audit.proofs.SoundLemmas.{missing_in, somewhere_or_not, sound_from, keeps_from, keeps_partners}
-use Rattle.plan_audit.proofs.StepLemmas.{plan_from, distinct_if_passing, planned_step, pass_step}
+use Rattle.plan_audit.proofs.StepLemmas.{plan_from, live_passing, planned_step, pass_step}
 use Rattle.plan_audit.proofs.VerdictLemmas.{Keeps}
 
 -- all eleven rules include the first eight
@@ -48,7 +48,7 @@ pub passes_are_sound : NamedRequestsAreFound → PassesAreSound
 passes_are_sound found p s cost valid v = sound_from found p s valid (fewer p s v.0)
 
 pub passes_are_plans : PassesArePlans
-passes_are_plans p s cost v = (plan_from p s (fewer p s v.0), distinct_if_passing p s cost v)
+passes_are_plans p s cost v = (plan_from p s (fewer p s v.0), live_passing p s cost v)
 
 pub unsound_is_broken : NamedRequestsAreFound → UnsoundIsBroken
 unsound_is_broken found p s (Pass cost) valid unsound v = absurd (unsound (passes_are_sound found p s cost valid v))
@@ -160,21 +160,21 @@ solutions_pass_where_sound by_name found p routes cost v valid is = (
 
 -- if rules 3 to 8 hold, they also hold for route r as the only route; its stops are stops of the plan
 module _ (p : Instance) (s : Subject) (kept : KeepsRules 3 8 p s) (r : ℕ) (route : List ℕ) (at : item_at (routes_of s) r ≡ Some route) where
-  has_stop_there : (q i n : ℕ) → HasStopAt (route ∷ []) q i n → HasStopAt (routes_of s) r i n
-  has_stop_there q i n t = (route, at, subst (λ (l : List ℕ). item_at l i ≡ Some n) (sym (only_route route t.0 q t.1).1) t.2)
+  stands_there : (q i n : ℕ) → HasStopAt (route ∷ []) q i n → HasStopAt (routes_of s) r i n
+  stands_there q i n t = (route, at, subst (λ (l : List ℕ). item_at l i ≡ Some n) (sym (only_route route t.0 q t.1).1) t.2)
 
   feasible : KeepsRules 3 8 p (alone route)
   feasible MissingStop q i n from to b = elim (somewhere_or_not (routes_of s) n) [
-    | inr nowhere ↦ kept MissingStop r i n (omega arith) (omega arith) (missing_in p s r i n (b.0, has_stop_there q i b.0 b.1, b.2, nowhere))
+    | inr nowhere ↦ kept MissingStop r i n (omega arith) (omega arith) (missing_in p s r i n (b.0, stands_there q i b.0 b.1, b.2, nowhere))
     | inl u ↦ elim (eqb_tells u.0 r) [
       | inl t ↦ b.3
           (1, u.1, (route, refl, subst (λ (l : List ℕ). item_at l u.1 ≡ Some n) (same_Some _ _ (sym u.2.1 ∙ ap (item_at (routes_of s)) t.1 ∙ at)) u.2.2))
-      | inr t ↦ kept SplitPair r i b.0 (omega arith) (omega arith) (has_stop_there q i b.0 b.1, (n, b.2, (u.0, u.1, t.1, u.2)))
+      | inr t ↦ kept SplitPair r i b.0 (omega arith) (omega arith) (stands_there q i b.0 b.1, (n, b.2, (u.0, u.1, t.1, u.2)))
     ]
   ]
   feasible SplitPair q i n from to b = not_split p route q i n b
   feasible EarlyDelivery q i n from to b =
-      kept EarlyDelivery r i n (omega arith) (omega arith) (has_stop_there q i n b.0, (b.1.0, b.1.1, (b.1.2.0, b.1.2.1, has_stop_there q b.1.2.0 b.1.0 b.1.2.2)))
+      kept EarlyDelivery r i n (omega arith) (omega arith) (stands_there q i n b.0, (b.1.0, b.1.1, (b.1.2.0, b.1.2.1, stands_there q b.1.2.0 b.1.0 b.1.2.2)))
   feasible Load q i n from to b =
       kept Load r i n (omega arith) (omega arith)
       (route, at, in_route route (λ l. item_at l i ≡ Some n) q b.0 b.1 b.2, in_route route (λ l. pos p.capacity <ℤ load p l i) q b.0 b.1 b.3)

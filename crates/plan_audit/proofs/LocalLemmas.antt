@@ -51,9 +51,9 @@ use Rattle.plan_audit.proofs.AloneLemmas.{item_holds, distinct_places}
 use Rattle.plan_audit.proofs.FirstLemmas.{none_some}
 use Rattle.plan_audit.proofs.LawProofs.{no_pin_off, routes_are_feasible}
 use Rattle.plan_audit.proofs.PinLemmas.{pins_kept}
-use Rattle.plan_audit.proofs.PlanLemmas.{all_by_get, OccurOnce, distinct_route, is_plan, distinct_routes}
-use Rattle.plan_audit.proofs.RuleLemmas.{has_stop_at_index}
-use Rattle.plan_audit.proofs.PositionLemmas.{HasStopAtIndex}
+use Rattle.plan_audit.proofs.PlanLemmas.{all_by_get, StandOnce, distinct_route, is_plan, live_routes}
+use Rattle.plan_audit.proofs.RuleLemmas.{standing}
+use Rattle.plan_audit.proofs.PositionLemmas.{Sits}
 use Rattle.plan_audit.proofs.SoundLemmas.{somewhere_or_not}
 use Rattle.plan_audit.proofs.StepLemmas.{plan_from, planned_step}
 use Rattle.plan_audit.proofs.TestLemmas.{has_at, place_of_had, feasible_alone_decides_feasibility}
@@ -63,11 +63,11 @@ all_parts : {X : Type 0} (P : X → Type 0) (xs ys : List X) → AllByRecursion 
 all_parts P [] ys all = (tt, all)
 all_parts P (x ∷ xs) ys all = let rest = all_parts P xs ys all.1 in ((all.0, rest.0), rest.1)
 
-all_at_index : (P : ℕ → Type 0) (routes : List (List ℕ)) → AllByRecursion P (concat routes) → (r i n : ℕ) → HasStopAtIndex routes r i n → P n
-all_at_index P [] all r i n at_index = absurd (none_some at_index.0 at_index.1)
-all_at_index P (route ∷ rest) all zero i n at_index =
-    item_holds P route i n (all_parts P route (concat rest) all).0 (subst (λ (l : List ℕ). slice_get l i ≡ Some n) (sym (same_Some route at_index.0 at_index.1)) at_index.2)
-all_at_index P (route ∷ rest) all (suc r) i n at_index = all_at_index P rest (all_parts P route (concat rest) all).1 r i n at_index
+all_seats : (P : ℕ → Type 0) (routes : List (List ℕ)) → AllByRecursion P (concat routes) → (r i n : ℕ) → Sits routes r i n → P n
+all_seats P [] all r i n sits = absurd (none_some sits.0 sits.1)
+all_seats P (route ∷ rest) all zero i n sits =
+    item_holds P route i n (all_parts P route (concat rest) all).0 (subst (λ (l : List ℕ). slice_get l i ≡ Some n) (sym (same_Some route sits.0 sits.1)) sits.2)
+all_seats P (route ∷ rest) all (suc r) i n sits = all_seats P rest (all_parts P route (concat rest) all).1 r i n sits
 
 -- two parts of a list of distinct numbers share no number
 distinct_parts : (xs ys : List ℕ) → IsDistinct nat_eq (xs ++ ys)
@@ -81,26 +81,26 @@ distinct_parts (x ∷ xs) ys once =
 
 -- a number of the first route is in no later one
 not_in_both : (route : List ℕ) (rest : List (List ℕ)) → AllByRecursion (λ x. AllByRecursion (λ y. nat_eq x y ≡ false) (concat rest)) route → (j r i n : ℕ)
-    → slice_get route j ≡ Some n → HasStopAtIndex rest r i n → ⊥
-not_in_both route rest apart j r i n at at_index =
+    → slice_get route j ≡ Some n → Sits rest r i n → ⊥
+not_in_both route rest apart j r i n at sits =
     eqb-false n n
-    (all_at_index (λ y. nat_eq n y ≡ false) rest (item_holds (λ x. AllByRecursion (λ y. nat_eq x y ≡ false) (concat rest)) route j n apart at) r i n at_index) refl
+    (all_seats (λ y. nat_eq n y ≡ false) rest (item_holds (λ x. AllByRecursion (λ y. nat_eq x y ≡ false) (concat rest)) route j n apart at) r i n sits) refl
 
-in_first : (route : List ℕ) (rest : List (List ℕ)) (i n : ℕ) → HasStopAtIndex (route ∷ rest) zero i n → slice_get route i ≡ Some n
-in_first route rest i n at_index = subst (λ (l : List ℕ). slice_get l i ≡ Some n) (sym (same_Some route at_index.0 at_index.1)) at_index.2
+in_first : (route : List ℕ) (rest : List (List ℕ)) (i n : ℕ) → Sits (route ∷ rest) zero i n → slice_get route i ≡ Some n
+in_first route rest i n sits = subst (λ (l : List ℕ). slice_get l i ≡ Some n) (sym (same_Some route sits.0 sits.1)) sits.2
 
 -- distinct stops have one position each
-pub occur_once_from : (routes : List (List ℕ)) → IsDistinct nat_eq (concat routes) → OccurOnce routes
-unfolding OccurOnce
-occur_once_from [] once q j r i n a b = absurd (none_some a.0 a.1)
-occur_once_from (route ∷ rest) once zero j zero i n a b =
+pub stand_once_from : (routes : List (List ℕ)) → IsDistinct nat_eq (concat routes) → StandOnce routes
+unfolding StandOnce
+stand_once_from [] once q j r i n a b = absurd (none_some a.0 a.1)
+stand_once_from (route ∷ rest) once zero j zero i n a b =
     (refl, distinct_places route j i n (distinct_parts route (concat rest) once).0 (in_first route rest j n a) (in_first route rest i n b))
-occur_once_from (route ∷ rest) once zero j (suc r) i n a b =
+stand_once_from (route ∷ rest) once zero j (suc r) i n a b =
     absurd (not_in_both route rest (distinct_parts route (concat rest) once).2 j r i n (in_first route rest j n a) b)
-occur_once_from (route ∷ rest) once (suc q) j zero i n a b =
+stand_once_from (route ∷ rest) once (suc q) j zero i n a b =
     absurd (not_in_both route rest (distinct_parts route (concat rest) once).2 i q j n (in_first route rest i n b) a)
-occur_once_from (route ∷ rest) once (suc q) j (suc r) i n a b =
-    let e = occur_once_from rest (distinct_parts route (concat rest) once).1 q j r i n a b in (ap suc e.0, e.1)
+stand_once_from (route ∷ rest) once (suc q) j (suc r) i n a b =
+    let e = stand_once_from rest (distinct_parts route (concat rest) once).1 q j r i n a b in (ap suc e.0, e.1)
 
 -- the tests of distinct stops and of current stops
 none_had : (n : ℕ) (ns : List ℕ) → has ns n ≡ false → AllByRecursion (λ m. nat_eq n m ≡ false) ns
@@ -129,13 +129,13 @@ tested_distinct [] once = refl
 tested_distinct (n ∷ ns) once = and_from (not (has ns n)) (are_distinct ns) (not_from_false (has ns n) (had_none n ns once.0)) (tested_distinct ns once.1)
 
 module _ (p : Instance) where
-  distinct_from_test : (ns : List ℕ) → are_distinct_stops p ns ≡ true → AreDistinctStops p ns
-  distinct_from_test ns test =
+  live_tested : (ns : List ℕ) → are_distinct_stops p ns ≡ true → AreDistinctStops p ns
+  live_tested ns test =
       let both = and_parts (list_all (λ n. is_some (stop_at p n)) ns) (are_distinct ns) test in
       record { live = AllPass-from_list_all (λ n. is_some (stop_at p n)) ns both.0; distinct = distinct_tested ns both.1 }
 
-  test_from_distinct : (ns : List ℕ) → AreDistinctStops p ns → are_distinct_stops p ns ≡ true
-  test_from_distinct ns once =
+  tested_live : (ns : List ℕ) → AreDistinctStops p ns → are_distinct_stops p ns ≡ true
+  tested_live ns once =
       and_from (list_all (λ n. is_some (stop_at p n)) ns) (are_distinct ns) (list_all-from_AllPass (λ n. is_some (stop_at p n)) ns (once.live))
       (tested_distinct ns (once.distinct))
 
@@ -153,63 +153,63 @@ starts_from (x ∷ ns) (m ∷ pin) each =
     and_from (nat_eq m x) (starts_with nat_eq ns pin) (eq-eqb m x (same_Some m x (sym (each zero m refl)))) (starts_from ns pin (λ i n at. each (suc i) n at))
 
 -- the test of the pins, by places counted from 0
-pins_tested : (routes pins : List (List ℕ)) → begin_with_pins routes pins ≡ true → (r i n : ℕ) → HasStopAtIndex pins r i n → HasStopAtIndex routes r i n
-pins_tested routes [] test r i n at_index = absurd (none_some at_index.0 at_index.1)
-pins_tested [] (pin ∷ pins) test zero i n at_index =
-    absurd (empty pin (and_parts (eqb (length pin) 0) (begin_with_pins [] pins) test).0 (in_first pin pins i n at_index))
+pins_tested : (routes pins : List (List ℕ)) → begin_with_pins routes pins ≡ true → (r i n : ℕ) → Sits pins r i n → Sits routes r i n
+pins_tested routes [] test r i n sits = absurd (none_some sits.0 sits.1)
+pins_tested [] (pin ∷ pins) test zero i n sits =
+    absurd (empty pin (and_parts (eqb (length pin) 0) (begin_with_pins [] pins) test).0 (in_first pin pins i n sits))
   where
     empty : (pin : List ℕ) → eqb (length pin) 0 ≡ true → slice_get pin i ≡ Some n → ⊥
     empty [] none at = none_some n at
     empty (m ∷ ms) none at = let none' = eqb-true (length (m ∷ ms)) 0 none in omega arith
-pins_tested [] (pin ∷ pins) test (suc r) i n at_index =
-    absurd (none_some _ (pins_tested [] pins (and_parts (eqb (length pin) 0) (begin_with_pins [] pins) test).1 r i n at_index).1)
-pins_tested (route ∷ routes) (pin ∷ pins) test zero i n at_index =
-    (route, refl, starts_at route pin (and_parts (starts_with nat_eq route pin) (begin_with_pins routes pins) test).0 i n (in_first pin pins i n at_index))
-pins_tested (route ∷ routes) (pin ∷ pins) test (suc r) i n at_index =
-    pins_tested routes pins (and_parts (starts_with nat_eq route pin) (begin_with_pins routes pins) test).1 r i n at_index
+pins_tested [] (pin ∷ pins) test (suc r) i n sits =
+    absurd (none_some _ (pins_tested [] pins (and_parts (eqb (length pin) 0) (begin_with_pins [] pins) test).1 r i n sits).1)
+pins_tested (route ∷ routes) (pin ∷ pins) test zero i n sits =
+    (route, refl, starts_at route pin (and_parts (starts_with nat_eq route pin) (begin_with_pins routes pins) test).0 i n (in_first pin pins i n sits))
+pins_tested (route ∷ routes) (pin ∷ pins) test (suc r) i n sits =
+    pins_tested routes pins (and_parts (starts_with nat_eq route pin) (begin_with_pins routes pins) test).1 r i n sits
 
-tested_pins : (routes pins : List (List ℕ)) → ((r i n : ℕ) → HasStopAtIndex pins r i n → HasStopAtIndex routes r i n) → begin_with_pins routes pins ≡ true
+tested_pins : (routes pins : List (List ℕ)) → ((r i n : ℕ) → Sits pins r i n → Sits routes r i n) → begin_with_pins routes pins ≡ true
 tested_pins routes [] kept = refl
 tested_pins [] (pin ∷ pins) kept =
     and_from (eqb (length pin) 0) (begin_with_pins [] pins) (by pin kept)
-    (tested_pins [] pins (λ r i n at_index. (let t = kept (suc r) i n at_index in absurd (none_some t.0 t.1))))
+    (tested_pins [] pins (λ r i n sits. (let t = kept (suc r) i n sits in absurd (none_some t.0 t.1))))
   where
-    by : (pin : List ℕ) → ((r i n : ℕ) → HasStopAtIndex (pin ∷ pins) r i n → HasStopAtIndex [] r i n) → eqb (length pin) 0 ≡ true
+    by : (pin : List ℕ) → ((r i n : ℕ) → Sits (pin ∷ pins) r i n → Sits [] r i n) → eqb (length pin) 0 ≡ true
     by [] kept = refl
     by (m ∷ ms) kept = (let t = kept zero zero m ((m ∷ ms), refl, refl) in absurd (none_some t.0 t.1))
 tested_pins (route ∷ routes) (pin ∷ pins) kept =
     and_from (starts_with nat_eq route pin) (begin_with_pins routes pins)
     (starts_from route pin (λ i n at. in_first route routes i n (kept zero i n (pin, refl, at))))
-    (tested_pins routes pins (λ r i n at_index. kept (suc r) i n at_index))
+    (tested_pins routes pins (λ r i n sits. kept (suc r) i n sits))
 
 -- the test of the pins, by places counted from 1
-kept_at_index : (routes pins : List (List ℕ)) → KeepsPins routes pins → (r i n : ℕ) → HasStopAtIndex pins r i n → HasStopAtIndex routes r i n
-kept_at_index routes pins kept r i n at_index = kept (suc r) (suc i) n at_index
+keeps_seats : (routes pins : List (List ℕ)) → KeepsPins routes pins → (r i n : ℕ) → Sits pins r i n → Sits routes r i n
+keeps_seats routes pins kept r i n sits = kept (suc r) (suc i) n sits
 
-keeps_from_index : (routes pins : List (List ℕ)) → ((r i n : ℕ) → HasStopAtIndex pins r i n → HasStopAtIndex routes r i n) → KeepsPins routes pins
-keeps_from_index routes pins kept zero i n t = absurd (none_some t.0 t.1)
-keeps_from_index routes pins kept (suc r) zero n t = absurd (none_some n t.2)
-keeps_from_index routes pins kept (suc r) (suc i) n t = kept r i n t
+seats_keep : (routes pins : List (List ℕ)) → ((r i n : ℕ) → Sits pins r i n → Sits routes r i n) → KeepsPins routes pins
+seats_keep routes pins kept zero i n t = absurd (none_some t.0 t.1)
+seats_keep routes pins kept (suc r) zero n t = absurd (none_some n t.2)
+seats_keep routes pins kept (suc r) (suc i) n t = kept r i n t
 
 module _ (p : Instance) (routes : List (List ℕ)) where
-  pub known_in_plan : IsPlan p routes → (r i n : ℕ) → HasStopAtIndex routes r i n → IsKnownStop p n
-  known_in_plan plan r i n at_index = all_at_index (IsKnownStop p) routes (recursion_from_All (IsKnownStop p) (concat routes) (plan.live)) r i n at_index
+  pub live_seat : IsPlan p routes → (r i n : ℕ) → Sits routes r i n → IsKnownStop p n
+  live_seat plan r i n sits = all_seats (IsKnownStop p) routes (recursion_from_All (IsKnownStop p) (concat routes) (plan.live)) r i n sits
 
-  pub occur_once_in_plan : IsPlan p routes → OccurOnce routes
-  occur_once_in_plan plan = occur_once_from routes (plan.distinct)
+  pub once_seat : IsPlan p routes → StandOnce routes
+  once_seat plan = stand_once_from routes (plan.distinct)
 
   -- rules 1 and 2 hold
-  none_unknown : ((r i n : ℕ) → HasStopAtIndex routes r i n → IsKnownStop p n) → (r i n : ℕ) → IsUnknown p routes r i n → ⊥
-  none_unknown known r i n b =
-      let s = has_stop_at_index routes r i n b.0 in
-      let l = known s.0 s.1 n s.4 in
+  none_unknown : ((r i n : ℕ) → Sits routes r i n → IsKnownStop p n) → (r i n : ℕ) → IsUnknown p routes r i n → ⊥
+  none_unknown live r i n b =
+      let s = standing routes r i n b.0 in
+      let l = live s.0 s.1 n s.4 in
       let h : false ≡ true = ap is_some (sym b.1) ∙ l in cc
 
-  none_repeated : OccurOnce routes → (r i n : ℕ) → IsRepeated p routes r i n → ⊥
-  unfolding OccurOnce
+  none_repeated : StandOnce routes → (r i n : ℕ) → IsRepeated p routes r i n → ⊥
+  unfolding StandOnce
   none_repeated once r i n b =
-      let s = has_stop_at_index routes r i n b.0 in
-      let t = has_stop_at_index routes b.1.0 b.1.1 n b.1.3 in
+      let s = standing routes r i n b.0 in
+      let t = standing routes b.1.0 b.1.1 n b.1.3 in
       let e = once t.0 t.1 s.0 s.1 n t.4 s.4 in
       let a = s.2 in
       let c = s.3 in
@@ -222,16 +222,16 @@ module _ (p : Instance) (routes : List (List ℕ)) where
         | inr both ↦ (let lt = both.1 in omega arith)
       ]
 
-  occurs_once : OccurOnce routes → (q j r i n : ℕ) → HasStopAt routes q j n → HasStopAt routes r i n → (q ≡ r) × (j ≡ i)
-  unfolding OccurOnce
-  occurs_once once q j r i n a b =
-      let s = has_stop_at_index routes q j n a in
-      let t = has_stop_at_index routes r i n b in
+  stands_once : StandOnce routes → (q j r i n : ℕ) → HasStopAt routes q j n → HasStopAt routes r i n → (q ≡ r) × (j ≡ i)
+  unfolding StandOnce
+  stands_once once q j r i n a b =
+      let s = standing routes q j n a in
+      let t = standing routes r i n b in
       let e = once s.0 s.1 t.0 t.1 n s.4 t.4 in
       (s.2 ∙ ap suc e.0 ∙ sym t.2, s.3 ∙ ap suc e.1 ∙ sym t.3)
 
   -- if all stops are current and distinct and each route is feasible alone, rules 1 to 8 hold for the plan
-  module _ (pins : List (List ℕ)) (once : OccurOnce routes) (known : (r i n : ℕ) → HasStopAtIndex routes r i n → IsKnownStop p n)
+  module _ (pins : List (List ℕ)) (once : StandOnce routes) (live : (r i n : ℕ) → Sits routes r i n → IsKnownStop p n)
       (feasible : (r : ℕ) (route : List ℕ) → item_at routes r ≡ Some route → IsFeasibleAlone p route) where
     anywhere : (route : List ℕ) (r : ℕ) → item_at routes r ≡ Some route → (q j n : ℕ) → HasStopAt (route ∷ []) q j n → HasStopAt routes r j n
     anywhere route r at zero j n t = absurd (none_some t.0 t.1)
@@ -242,7 +242,7 @@ module _ (p : Instance) (routes : List (List ℕ)) where
     here r route other at on = same_Some other route (sym on ∙ at)
 
     pub kept_rules : KeepsRules 1 8 p (planned routes pins)
-    kept_rules UnknownStop r i n from to b = none_unknown known r i n b
+    kept_rules UnknownStop r i n from to b = none_unknown live r i n b
     kept_rules VisitedTwice r i n from to b = none_repeated once r i n b
     kept_rules MissingStop r i n from to b =
         feasible r b.1.0 b.1.1 MissingStop 1 i n (omega arith) (omega arith)
@@ -252,7 +252,7 @@ module _ (p : Instance) (routes : List (List ℕ)) where
         let m = b.1.0 in
         let other = b.1.2 in
         elim (somewhere_or_not (b.0.0 ∷ []) b.1.0) [
-          | inl t ↦ other.2 (occurs_once once other.0 other.1 r t.1 b.1.0 other.3 (anywhere b.0.0 r b.0.1 t.0 t.1 b.1.0 t.2)).0
+          | inl t ↦ other.2 (stands_once once other.0 other.1 r t.1 b.1.0 other.3 (anywhere b.0.0 r b.0.1 t.0 t.1 b.1.0 t.2)).0
           | inr none ↦ feasible r b.0.0 b.0.1 MissingStop 1 i b.1.0 (omega arith) (omega arith) (n, (b.0.0, refl, b.0.2), b.1.1, none)
         ]
     kept_rules EarlyDelivery r i n from to b =
@@ -288,7 +288,7 @@ module _ (p : Instance) (pins routes : List (List ℕ)) where
   rules_from : IsPassing p pins routes → KeepsRules 1 11 p (planned routes pins)
   rules_from passing =
       planned_step p routes pins
-      (kept_rules p routes pins (occur_once_in_plan p routes (passing.plan)) (known_in_plan p routes (passing.plan))
+      (kept_rules p routes pins (once_seat p routes (passing.plan)) (live_seat p routes (passing.plan))
       (λ r route at. all_items (IsFeasibleAlone p) routes (passing.feasible) r route at))
       (passing.fleet) (no_pin_off routes pins (passing.pinned))
 
@@ -320,24 +320,24 @@ module _ (p : Instance) (pins routes : List (List ℕ)) where
       let two = and_parts (eqb (length routes) p.fleet) (list_all (feasible_alone p) routes && begin_with_pins routes pins) one.1 in
       let three = and_parts (list_all (feasible_alone p) routes) (begin_with_pins routes pins) two.1 in
       record {
-        plan = distinct_from_test p (concat routes) one.0;
+        plan = live_tested p (concat routes) one.0;
         fleet = eqb-true (length routes) p.fleet two.0;
         feasible = All-weaker (λ route. feasible_alone p route ≡ true) (IsFeasibleAlone p) (λ route t. (feasible_alone_decides_feasibility p route).0 t) routes
             (AllPass-from_list_all (feasible_alone p) routes three.0);
-        pinned = keeps_from_index routes pins (pins_tested routes pins three.1);
+        pinned = seats_keep routes pins (pins_tested routes pins three.1);
       }
 
   passing_tested : IsPassing p pins routes → passes p pins routes ≡ true
   unfolding passes
   passing_tested passing =
       and_from (are_distinct_stops p (concat routes)) (eqb (length routes) p.fleet && (list_all (feasible_alone p) routes && begin_with_pins routes pins))
-      (test_from_distinct p (concat routes) (passing.plan))
+      (tested_live p (concat routes) (passing.plan))
       (and_from (eqb (length routes) p.fleet) (list_all (feasible_alone p) routes && begin_with_pins routes pins)
       (eq-eqb (length routes) p.fleet (passing.fleet))
       (and_from (list_all (feasible_alone p) routes) (begin_with_pins routes pins)
       (list_all-from_AllPass (feasible_alone p) routes
       (All-weaker (IsFeasibleAlone p) (λ route. feasible_alone p route ≡ true) (λ route t. (feasible_alone_decides_feasibility p route).1 t) routes (passing.feasible)))
-      (tested_pins routes pins (kept_at_index routes pins (passing.pinned)))))
+      (tested_pins routes pins (keeps_seats routes pins (passing.pinned)))))
 
 pub passing_is_local : PassingIsLocal
 passing_is_local p pins routes = (tested_passing p pins routes, passing_tested p pins routes)
@@ -349,48 +349,48 @@ passes_decides_the_verdict p pins routes = (
 )
 
 pub plans_are_disjoint_routes : PlansAreDisjointRoutes
-unfolding OccurOnce
+unfolding StandOnce
 plans_are_disjoint_routes p routes =
-    (λ plan. (each plan, λ q j r i n a b. (occurs_once p routes (occur_once_in_plan p routes plan) q j r i n a b).0), λ both. joined both.0 both.1)
+    (λ plan. (each plan, λ q j r i n a b. (stands_once p routes (once_seat p routes plan) q j r i n a b).0), λ both. joined both.0 both.1)
   where
     each : IsPlan p routes → All (AreDistinctStops p) routes
-    each plan = distinct_routes p routes (none_unknown p routes (known_in_plan p routes plan)) (none_repeated p routes (occur_once_in_plan p routes plan))
+    each plan = live_routes p routes (none_unknown p routes (live_seat p routes plan)) (none_repeated p routes (once_seat p routes plan))
 
-    once : All (AreDistinctStops p) routes → ShareNoStop routes → OccurOnce routes
+    once : All (AreDistinctStops p) routes → ShareNoStop routes → StandOnce routes
     once all one q j r i n a b =
         let same = one (suc q) (suc j) (suc r) (suc i) n a b in
         let e : q ≡ r = omega arith in
-        let one = all_items (AreDistinctStops p) routes all (suc r) b.0 b.1 in
+        let live = all_items (AreDistinctStops p) routes all (suc r) b.0 b.1 in
         let route : a.0 ≡ b.0 = same_Some a.0 b.0 (sym a.1 ∙ ap (slice_get routes) e ∙ b.1) in
-        (e, distinct_places b.0 j i n (one.distinct) (subst (λ (l : List ℕ). slice_get l j ≡ Some n) route a.2) b.2)
+        (e, distinct_places b.0 j i n (live.distinct) (subst (λ (l : List ℕ). slice_get l j ≡ Some n) route a.2) b.2)
 
-    all_known : All (AreDistinctStops p) routes → (r i n : ℕ) → HasStopAtIndex routes r i n → IsKnownStop p n
-    all_known all r i n at_index =
-        let one = all_items (AreDistinctStops p) routes all (suc r) at_index.0 at_index.1 in
-        item_holds (IsKnownStop p) at_index.0 i n (recursion_from_All (IsKnownStop p) at_index.0 (one.live)) at_index.2
+    lives : All (AreDistinctStops p) routes → (r i n : ℕ) → Sits routes r i n → IsKnownStop p n
+    lives all r i n sits =
+        let live = all_items (AreDistinctStops p) routes all (suc r) sits.0 sits.1 in
+        item_holds (IsKnownStop p) sits.0 i n (recursion_from_All (IsKnownStop p) sits.0 (live.live)) sits.2
 
     joined : All (AreDistinctStops p) routes → ShareNoStop routes → IsPlan p routes
-    joined all one = is_plan p routes (none_unknown p routes (all_known all)) (none_repeated p routes (once all one))
+    joined all one = is_plan p routes (none_unknown p routes (lives all)) (none_repeated p routes (once all one))
 
 pub pins_are_distinct_stops : PinsAreDistinctStops
 pins_are_distinct_stops p pins routes test =
     items_all (AreDistinctStops p) pins (λ r pin at. record {
-      live = All-from_recursion (IsKnownStop p) pin (all_by_get (IsKnownStop p) pin (λ i n on. all_known r pin at i n on));
+      live = All-from_recursion (IsKnownStop p) pin (all_by_get (IsKnownStop p) pin (λ i n on. lives r pin at i n on));
       distinct = distinct_route pin (λ j i n a b. once r pin at j i n a b);
     })
   where
     passing : IsPassing p pins routes
     passing = tested_passing p pins routes test
 
-    at_index : (r : ℕ) (pin : List ℕ) → item_at pins r ≡ Some pin → (i n : ℕ) → slice_get pin i ≡ Some n → HasStopAt routes r (suc i) n
-    at_index r pin at i n on = let kept : KeepsPins routes pins = passing.pinned in kept r (suc i) n (pin, at, on)
+    sits : (r : ℕ) (pin : List ℕ) → item_at pins r ≡ Some pin → (i n : ℕ) → slice_get pin i ≡ Some n → HasStopAt routes r (suc i) n
+    sits r pin at i n on = let kept : KeepsPins routes pins = passing.pinned in kept r (suc i) n (pin, at, on)
 
-    all_known : (r : ℕ) (pin : List ℕ) → item_at pins r ≡ Some pin → (i n : ℕ) → slice_get pin i ≡ Some n → IsKnownStop p n
-    all_known r pin at i n on = let s = has_stop_at_index routes r (suc i) n (at_index r pin at i n on) in known_in_plan p routes (passing.plan) s.0 s.1 n s.4
+    lives : (r : ℕ) (pin : List ℕ) → item_at pins r ≡ Some pin → (i n : ℕ) → slice_get pin i ≡ Some n → IsKnownStop p n
+    lives r pin at i n on = let s = standing routes r (suc i) n (sits r pin at i n on) in live_seat p routes (passing.plan) s.0 s.1 n s.4
 
     once : (r : ℕ) (pin : List ℕ) → item_at pins r ≡ Some pin → (j i n : ℕ) → slice_get pin j ≡ Some n → slice_get pin i ≡ Some n → j ≡ i
     once r pin at j i n a b =
-        let e = (occurs_once p routes (occur_once_in_plan p routes (passing.plan)) r (suc j) r (suc i) n (at_index r pin at j n a) (at_index r pin at i n b)).1 in omega arith
+        let e = (stands_once p routes (once_seat p routes (passing.plan)) r (suc j) r (suc i) n (sits r pin at j n a) (sits r pin at i n b)).1 in omega arith
 
 -- lists of the same length have the same indices
 item_of_same : {X Y : Type 0} (xs : List X) (ys : List Y) → length xs ≡ length ys → (k : ℕ) (x : X) → slice_get xs k ≡ Some x
@@ -402,17 +402,17 @@ item_of_same (z ∷ xs) (y ∷ ys) same (suc k) x at = item_of_same xs ys (omega
 
 pub routes_may_be_replaced : RoutesMayBeReplaced
 routes_may_be_replaced p pins routes others test same apart change = passing_tested p pins others (record {
-  plan = (plans_are_disjoint_routes p others).1 (items_all (AreDistinctStops p) others each, apart);
+  plan = (plans_are_disjoint_routes p others).1 (items_all (AreDistinctStops p) others live, apart);
   fleet = same ∙ passing.fleet;
   feasible = items_all (IsFeasibleAlone p) others feasible;
-  pinned = keeps_from_index others pins pinned;
+  pinned = seats_keep others pins pinned;
 })
   where
     passing : IsPassing p pins routes
     passing = tested_passing p pins routes test
 
-    each : (r : ℕ) (route : List ℕ) → item_at others r ≡ Some route → AreDistinctStops p route
-    each r route at = elim (change r route at) [
+    live : (r : ℕ) (route : List ℕ) → item_at others r ≡ Some route → AreDistinctStops p route
+    live r route at = elim (change r route at) [
       | inl old ↦ all_items (AreDistinctStops p) routes ((plans_are_disjoint_routes p routes).0 (passing.plan)).0 r route old
       | inr may ↦ may.stops
     ]
@@ -423,14 +423,14 @@ routes_may_be_replaced p pins routes others test same apart change = passing_tes
       | inr may ↦ (feasible_alone_decides_feasibility p route).0 (may.feasible)
     ]
 
-    pinned : (r i n : ℕ) → HasStopAtIndex pins r i n → HasStopAtIndex others r i n
-    pinned r i n at_index =
+    pinned : (r i n : ℕ) → Sits pins r i n → Sits others r i n
+    pinned r i n sits =
         let kept : KeepsPins routes pins = passing.pinned in
-        let old = kept (suc r) (suc i) n at_index in
+        let old = kept (suc r) (suc i) n sits in
         let new = item_of_same routes others (sym same) r old.0 old.1 in
         elim (change (suc r) new.0 new.1) [
           | inl at ↦ (new.0, new.1, subst (λ (l : List ℕ). slice_get l i ≡ Some n) (same_Some old.0 new.0 (sym old.1 ∙ at)) old.2)
-          | inr may ↦ (new.0, new.1, starts_at new.0 at_index.0 (may.pinned at_index.0 at_index.1) i n at_index.2)
+          | inr may ↦ (new.0, new.1, starts_at new.0 sits.0 (may.pinned sits.0 sits.1) i n sits.2)
         ]
 
 pub verdicts_are_unique : VerdictsAreUnique

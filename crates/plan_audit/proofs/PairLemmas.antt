@@ -76,8 +76,8 @@ pub left_out_more : (routes : List (List ℕ)) (es : List (ℕ × Request)) (k :
     → count_by (is_left_out routes) (take (k + 1) es) ≡ count_by (is_left_out routes) (take k es) + cond b 1 0
 left_out_more routes es k b lt is = elim (slice_get_cases es k).1 [
   | inl t ↦ (
-      let reported = ap (λ (o : Option (ℕ × Request)). is_some (option_and_then (unserved_in routes) o)) (sym t.2) ∙ is in
-      let adds = ap (λ c. cond {A = ℕ} c 1 0) (ap (is_left_out routes) t.3 ∙ sym (one t.0) ∙ reported) in
+      let tells = ap (λ (o : Option (ℕ × Request)). is_some (option_and_then (unserved_in routes) o)) (sym t.2) ∙ is in
+      let adds = ap (λ c. cond {A = ℕ} c 1 0) (ap (is_left_out routes) t.3 ∙ sym (one t.0) ∙ tells) in
       sum_by_more (λ e. cond {A = ℕ} (is_left_out routes e) 1 0) es k t.0 lt ∙ ap (λ n. count_by (is_left_out routes) (take k es) + n) adds)
   | inr past ↦ absurd (omega arith)
 ]

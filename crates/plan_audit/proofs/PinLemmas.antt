@@ -8,7 +8,7 @@ use Rattle.plan_audit.specs.Verdict.{IsPinMismatch}
 use Rattle.plan_audit.specs.declared.faults.Fault.{Fault}
 use Rattle.plan_audit.proofs.FirstLemmas.{none_some}
 use Rattle.plan_audit.proofs.FailingPlaces.{Spot, IsTestOf, IsLeastOf, rule_nothing, rule_found}
-use Rattle.plan_audit.proofs.TimeLemmas.{has_stop_at_items}
+use Rattle.plan_audit.proofs.TimeLemmas.{standing_in}
 
 -- whether a place holds stop n
 abbrev IsHolding : ℕ → Option ℕ → Type 0
@@ -58,7 +58,7 @@ module _ (routes pins : List (List ℕ)) where
       from : (r i s : ℕ) → IsOff r i s
           → (q : ℕ) × (j : ℕ) × (r ≡ suc q) × (i ≡ suc j) × Spot (λ r _ i n. pin_mismatch_at (unwrap_or (slice_get routes r) []) i n) pins q j s
       from r i s b =
-          let t = has_stop_at_items pins b.0 r i s b.1 b.2 in
+          let t = standing_in pins b.0 r i s b.1 b.2 in
           let off : slice_get (unwrap_or (slice_get routes t.0) []) t.1 ≢ Some s =
           subst (λ i'. item_at (unwrap_or (slice_get routes t.0) []) i' ≢ Some s) t.3
           (subst (λ r'. item_at (unwrap_or (item_at routes r') []) i ≢ Some s) t.2 b.3) in (

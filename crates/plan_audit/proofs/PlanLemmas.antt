@@ -8,7 +8,7 @@ use Rattle.plan_types.specs.Laws.{StopsAreBelowNext}
 use Rattle.plan_types.specs.declared.requests.Stop.{Stop}
 use Rattle.route_sched.specs.Route.{IsKnownStop, AreDistinctStops, IsPlan}
 use Rattle.plan_audit.specs.Rules.{IsUnknown, IsRepeated}
-use Rattle.plan_audit.proofs.PositionLemmas.{HasStopAtIndex, neither_before}
+use Rattle.plan_audit.proofs.PositionLemmas.{Sits, neither_before}
 
 -- a property of the item at each index holds for all items
 pub all_by_get : {X : Type 0} (P : X → Type 0) (xs : List X) → ((k : ℕ) (x : X) → slice_get xs k ≡ Some x → P x) → AllByRecursion P xs
@@ -43,11 +43,11 @@ distinct_route (n ∷ ns) once = (
 )
 
 -- each stop has only one position
-unfoldable pub OccurOnce : List (List ℕ) → Type 0
-OccurOnce routes = (q j r i n : ℕ) → HasStopAtIndex routes q j n → HasStopAtIndex routes r i n → (q ≡ r) × (j ≡ i)
+unfoldable pub StandOnce : List (List ℕ) → Type 0
+StandOnce routes = (q j r i n : ℕ) → Sits routes q j n → Sits routes r i n → (q ≡ r) × (j ≡ i)
 
-distinct_concat : (routes : List (List ℕ)) → OccurOnce routes → IsDistinct nat_eq (concat routes)
-unfolding OccurOnce IsDistinct
+distinct_concat : (routes : List (List ℕ)) → StandOnce routes → IsDistinct nat_eq (concat routes)
+unfolding StandOnce IsDistinct
 distinct_concat [] once = tt
 distinct_concat (route ∷ rest) once =
     distinct-append route (concat rest)
@@ -60,27 +60,27 @@ distinct_concat (route ∷ rest) once =
     apart_from x y (λ e. (let f = (once zero k (suc q) j x (route, refl, at) (other, on, there ∙ ap Some (sym e))).0 in absurd (omega arith))))))))
 
 module _ (p : Instance) (routes : List (List ℕ)) (known : (r i n : ℕ) → IsUnknown p routes r i n → ⊥) where
-  known-at : (r i n : ℕ) → HasStopAtIndex routes r i n → IsSome (stop_at p n)
-  known-at r i n at_index = by (stop_at p n) refl
+  live-at : (r i n : ℕ) → Sits routes r i n → IsSome (stop_at p n)
+  live-at r i n sits = by (stop_at p n) refl
     where
       by : (o : Option Stop) → stop_at p n ≡ o → IsSome o
       by (Some s) e = refl
-      by None e = absurd (known (suc r) (suc i) n (at_index, e))
+      by None e = absurd (known (suc r) (suc i) n (sits, e))
 
   -- each stop number of the routes is below the next number
   pub known_below : StopsAreBelowNext → IsInstance p → All (λ route. All (λ n. n < p.next_number) route) routes
   known_below stops_below valid =
       All-from_recursion (λ route. All (λ n. n < p.next_number) route) routes (all_by_get (λ route. All (λ n. n < p.next_number) route) routes (λ r route at.
       All-from_recursion (λ n. n < p.next_number) route
-      (all_by_get (λ n. n < p.next_number) route (λ i n on. stops_below p n valid (known-at r i n (route, at, on))))))
+      (all_by_get (λ n. n < p.next_number) route (λ i n on. stops_below p n valid (live-at r i n (route, at, on))))))
 
-  known_in : AllByRecursion (AllByRecursion (IsKnownStop p)) routes
-  known_in = all_by_get (AllByRecursion (IsKnownStop p)) routes (λ r route at. all_by_get (IsKnownStop p) route (λ i n on. known-at r i n (route, at, on)))
+  live_in : AllByRecursion (AllByRecursion (IsKnownStop p)) routes
+  live_in = all_by_get (AllByRecursion (IsKnownStop p)) routes (λ r route at. all_by_get (IsKnownStop p) route (λ i n on. live-at r i n (route, at, on)))
 
   module _ (once : (r i n : ℕ) → IsRepeated p routes r i n → ⊥) where
-    occur_once : OccurOnce routes
-    unfolding OccurOnce
-    occur_once q j r i n a b =
+    stand_once : StandOnce routes
+    unfolding StandOnce
+    stand_once q j r i n a b =
         let same =
         neither_before (suc q) (suc j) (suc r) (suc i) (λ earlier. once (suc r) (suc i) n (b, (suc q, suc j, earlier, a)))
         (λ earlier. once (suc q) (suc j) n (a, (suc r, suc i, earlier, b))) in
@@ -88,13 +88,13 @@ module _ (p : Instance) (routes : List (List ℕ)) (known : (r i n : ℕ) → Is
 
     pub is_plan : IsPlan p routes
     is_plan = record {
-      live = All-from_recursion (IsKnownStop p) (concat routes) (all-concat (IsKnownStop p) routes known_in);
-      distinct = distinct_concat routes occur_once;
+      live = All-from_recursion (IsKnownStop p) (concat routes) (all-concat (IsKnownStop p) routes live_in);
+      distinct = distinct_concat routes stand_once;
     }
 
-    pub distinct_routes : All (AreDistinctStops p) routes
-    unfolding OccurOnce
-    distinct_routes = All-from_recursion (AreDistinctStops p) routes (all_by_get (AreDistinctStops p) routes (λ r route at. record {
-      live = All-from_recursion (IsKnownStop p) route (all_by_get (IsKnownStop p) route (λ i n on. known-at r i n (route, at, on)));
-      distinct = distinct_route route (λ j i n a b. (occur_once r j r i n (route, at, a) (route, at, b)).1);
+    pub live_routes : All (AreDistinctStops p) routes
+    unfolding StandOnce
+    live_routes = All-from_recursion (AreDistinctStops p) routes (all_by_get (AreDistinctStops p) routes (λ r route at. record {
+      live = All-from_recursion (IsKnownStop p) route (all_by_get (IsKnownStop p) route (λ i n on. live-at r i n (route, at, on)));
+      distinct = distinct_route route (λ j i n a b. (stand_once r j r i n (route, at, a) (route, at, b)).1);
     }))

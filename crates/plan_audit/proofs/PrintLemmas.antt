@@ -29,8 +29,8 @@ use Rattle.plan_audit.specs.declared.rules.Rule.TheVariants.{MissingStop, Fleet,
 use Rattle.plan_audit.proofs.FirstLemmas.{none_some}
 use Rattle.plan_audit.proofs.FleetLemmas.{none_beyond, used-most}
 use Rattle.plan_audit.proofs.LawProofs as laws
-use Rattle.plan_audit.proofs.LocalLemmas.{all_items, items_all, kept_rules, known_in_plan, occur_once_in_plan, passing_is_local}
-use Rattle.plan_audit.proofs.ServedLemmas.{visited_from_test}
+use Rattle.plan_audit.proofs.LocalLemmas.{all_items, items_all, kept_rules, live_seat, once_seat, passing_is_local}
+use Rattle.plan_audit.proofs.ServedLemmas.{a_seat}
 use Rattle.plan_audit.proofs.SoundLemmas.{keeps_from, keeps_partners, sound_from}
 use Rattle.plan_audit.proofs.StepLemmas.{pass_step, plan_from}
 
@@ -77,13 +77,13 @@ cost-used p routes =
 -- ---- if no request is unplanned, each is planned
 pub is_there : (routes : List (List ℕ)) (request : Request) → is_planned routes request ≡ true → IsPlanned routes request
 is_there routes (Single s) e = elim (or_cases (has_stop routes s.number) false e) [
-  | inl t ↦ visited_from_test routes s.number t
+  | inl t ↦ a_seat routes s.number t
   | inr t ↦ (let g : false ≡ true = t in absurd cc)
 ]
 is_there routes (Pair a b) e = elim (or_cases (has_stop routes a.number) (has_stop routes b.number || false) e) [
-  | inl t ↦ inl (visited_from_test routes a.number t)
+  | inl t ↦ inl (a_seat routes a.number t)
   | inr t ↦ elim (or_cases (has_stop routes b.number) false t) [
-    | inl u ↦ inr (visited_from_test routes b.number u)
+    | inl u ↦ inr (a_seat routes b.number u)
     | inr u ↦ (let g : false ≡ true = u in absurd cc)
   ]
 ]
@@ -122,7 +122,7 @@ module _ (p : Instance) (routes : List (List ℕ)) (plan : IsPlan p routes) (fea
 
   used_kept : KeepsRules 1 8 p (planned (used_routes routes) [])
   used_kept =
-      kept_rules p (used_routes routes) [] (occur_once_in_plan p (used_routes routes) used_plan) (known_in_plan p (used_routes routes) used_plan)
+      kept_rules p (used_routes routes) [] (once_seat p (used_routes routes) used_plan) (live_seat p (used_routes routes) used_plan)
       (λ r route at. all_items (IsFeasibleAlone p) (used_routes routes) used_feasible r route at)
 
   -- if each request is planned, the printed form of the plan keeps rules 1 to 8

@@ -58,35 +58,35 @@ position_from-has n k (route ∷ routes) =
 pub first_position-has : (routes : List (List ℕ)) (n : ℕ) → is_some (position_of routes n) ≡ has_stop routes n
 first_position-has routes n = position_from-has n 0 routes
 
-pub not_visited_from_test : (routes : List (List ℕ)) (n : ℕ) → has_stop routes n ≡ false → IsVisited routes n → ⊥
-not_visited_from_test routes n none = by (position_of routes n) refl
+pub no_seat : (routes : List (List ℕ)) (n : ℕ) → has_stop routes n ≡ false → IsVisited routes n → ⊥
+no_seat routes n none = by (position_of routes n) refl
   where
     by : (o : Option StopPosition) → position_of routes n ≡ o → IsVisited routes n → ⊥
     by None e = nowhere-first_position routes n e
     by (Some u) e = absurd (let h : is_some (position_of routes n) ≡ false = first_position-has routes n ∙ none in let g : true ≡ false = (rw e at h) in cc)
 
-pub visited_from_test : (routes : List (List ℕ)) (n : ℕ) → has_stop routes n ≡ true → IsVisited routes n
-visited_from_test routes n some = by (position_of routes n) refl
+pub a_seat : (routes : List (List ℕ)) (n : ℕ) → has_stop routes n ≡ true → IsVisited routes n
+a_seat routes n some = by (position_of routes n) refl
   where
     by : (o : Option StopPosition) → position_of routes n ≡ o → IsVisited routes n
     by None e = absurd (let h : is_some (position_of routes n) ≡ true = first_position-has routes n ∙ some in let g : false ≡ true = (rw e at h) in cc)
-    by (Some u) e = (suc u.route, suc u.place, (position_of-found routes n u e).at_index)
+    by (Some u) e = (suc u.route, suc u.place, (position_of-found routes n u e).sits)
 
 pub not_served : (routes : List (List ℕ)) (r : Request) → is_planned routes r ≡ false → IsNowhere routes r
-not_served routes (Single s) e = (not_visited_from_test routes s.number (or_parts (has_stop routes s.number) false e).0, tt)
+not_served routes (Single s) e = (no_seat routes s.number (or_parts (has_stop routes s.number) false e).0, tt)
 not_served routes (Pair a b) e =
     let both = or_parts (has_stop routes a.number) (has_stop routes b.number || false) e in
-    (not_visited_from_test routes a.number both.0, (not_visited_from_test routes b.number (or_parts (has_stop routes b.number) false both.1).0, tt))
+    (no_seat routes a.number both.0, (no_seat routes b.number (or_parts (has_stop routes b.number) false both.1).0, tt))
 
 served_somewhere : (routes : List (List ℕ)) (r : Request) → is_planned routes r ≡ true → IsNowhere routes r → ⊥
 served_somewhere routes (Single s) e nowhere = elim (or_cases (has_stop routes s.number) false e) [
-  | inl t ↦ nowhere.0 (visited_from_test routes s.number t)
+  | inl t ↦ nowhere.0 (a_seat routes s.number t)
   | inr t ↦ (let g : false ≡ true = t in absurd (cc))
 ]
 served_somewhere routes (Pair a b) e nowhere = elim (or_cases (has_stop routes a.number) (has_stop routes b.number || false) e) [
-  | inl t ↦ nowhere.0 (visited_from_test routes a.number t)
+  | inl t ↦ nowhere.0 (a_seat routes a.number t)
   | inr t ↦ elim (or_cases (has_stop routes b.number) false t) [
-    | inl u ↦ nowhere.1.0 (visited_from_test routes b.number u)
+    | inl u ↦ nowhere.1.0 (a_seat routes b.number u)
     | inr u ↦ (let g : false ≡ true = u in absurd (cc))
   ]
 ]

@@ -76,7 +76,7 @@ somewhere_or_not routes n = by (position_of routes n) refl
   where
     by : (o : Option StopPosition) → position_of routes n ≡ o → IsVisited routes n ⊎ (IsVisited routes n → ⊥)
     by None e = inr (nowhere-first_position routes n e)
-    by (Some u) e = inl (suc u.route, suc u.place, (position_of-found routes n u e).at_index)
+    by (Some u) e = inl (suc u.route, suc u.place, (position_of-found routes n u e).sits)
 
 -- a place of a route has a stop
 pub stop_there : (ns : List ℕ) (i : ℕ) → 1 ≤ i → i ≤ length ns → (n : ℕ) × (item_at ns i ≡ Some n)
@@ -98,8 +98,8 @@ start_from p route i =
 
 -- a plan that keeps the rules is sound
 module _ (found : NamedRequestsAreFound) (p : Instance) (s : Subject) (valid : IsInstance p) (kept : KeepsRules 1 8 p s) where
-  known : (r i n : ℕ) → HasStopAt (routes_of s) r i n → IsKnownStop p n
-  known r i n t = by (stop_at p n) refl
+  live : (r i n : ℕ) → HasStopAt (routes_of s) r i n → IsKnownStop p n
+  live r i n t = by (stop_at p n) refl
     where
       by : (o : Option Stop) → stop_at p n ≡ o → IsSome o
       by (Some x) e = refl
@@ -111,12 +111,12 @@ module _ (found : NamedRequestsAreFound) (p : Instance) (s : Subject) (valid : I
   once : (r i n : ℕ) → HasStopAt (routes_of s) r i n → (q j : ℕ) → HasStopAt (routes_of s) q j n → (q ≡ r) × (j ≡ i)
   once r i n t q j u = neither_before q j r i (not_twice r i q j n t u) (not_twice q j r i n u t)
 
-  occurs_once : (r i n : ℕ) → HasStopAt (routes_of s) r i n → HasStopOnlyAt (routes_of s) r i n
-  occurs_once r i n t = (t, once r i n t)
+  stands_once : (r i n : ℕ) → HasStopAt (routes_of s) r i n → HasStopOnlyAt (routes_of s) r i n
+  stands_once r i n t = (t, once r i n t)
 
   -- the other stop of a pair is in a route too
-  partner_occurs : (r i n m : ℕ) → HasStopAt (routes_of s) r i n → partner_at p n ≡ Some m → IsVisited (routes_of s) m
-  partner_occurs r i n m t is = elim (somewhere_or_not (routes_of s) m) [
+  partner_stands : (r i n m : ℕ) → HasStopAt (routes_of s) r i n → partner_at p n ≡ Some m → IsVisited (routes_of s) m
+  partner_stands r i n m t is = elim (somewhere_or_not (routes_of s) m) [
     | inl there ↦ there
     | inr nowhere ↦ absurd (kept MissingStop r i m (omega arith) (omega arith) (missing_in p s r i m (n, t, is, nowhere)))
   ]
@@ -128,7 +128,7 @@ module _ (found : NamedRequestsAreFound) (p : Instance) (s : Subject) (valid : I
     | inl same ↦ (
         let u' : HasStopAt (routes_of s) r j b.number = subst (λ q. HasStopAt (routes_of s) q j b.number) (same.1) u in
         elim (cases_lt i j) [
-          | inl lt ↦ (r, i, j, lt, occurs_once r i a.number t, occurs_once r j b.number u')
+          | inl lt ↦ (r, i, j, lt, stands_once r i a.number t, stands_once r j b.number u')
           | inr ge ↦ absurd
               (kept EarlyDelivery r j b.number (omega arith) (omega arith) (u', (a.number, pickup_of_delivery found p valid name a b at, (i, following ge u', t))))
         ])
@@ -146,12 +146,12 @@ module _ (found : NamedRequestsAreFound) (p : Instance) (s : Subject) (valid : I
       ]
 
   served : (name : ℕ) (request : Request) → IsNamed p name request → IsPlanned (routes_of s) request → IsServedOnce (routes_of s) request
-  served name (Single a) at t = (t.0, t.1, occurs_once t.0 t.1 a.number t.2)
+  served name (Single a) at t = (t.0, t.1, stands_once t.0 t.1 a.number t.2)
   served name (Pair a b) at (inl t) =
-      let u = partner_occurs t.0 t.1 a.number b.number t.2 (partner_of_pickup found p valid name a b at) in
+      let u = partner_stands t.0 t.1 a.number b.number t.2 (partner_of_pickup found p valid name a b at) in
       both_served name a b at t.0 t.1 u.0 u.1 t.2 u.2
   served name (Pair a b) at (inr u) =
-      let t = partner_occurs u.0 u.1 b.number a.number u.2 (partner_of_delivery found p valid name a b at) in
+      let t = partner_stands u.0 u.1 b.number a.number u.2 (partner_of_delivery found p valid name a b at) in
       both_served name a b at t.0 t.1 u.0 u.1 t.2 u.2
 
   loads : (r i : ℕ) (route : List ℕ) → IsPlaceOf (routes_of s) r route i → load p route i ≤ℤ pos p.capacity
@@ -178,7 +178,7 @@ module _ (found : NamedRequestsAreFound) (p : Instance) (s : Subject) (valid : I
   ]
 
   pub sound_from : IsSoundPlan p (routes_of s)
-  sound_from = record { known = known; served = served; loads = loads; windows = windows; returns = returns }
+  sound_from = record { live = live; served = served; loads = loads; windows = windows; returns = returns }
 
 -- the stops a and b are a pair of the problem; their numbers are n and m, in either order
 IsPairOf : Instance → ℕ → ℕ → Stop → Stop → Type 0
@@ -272,7 +272,7 @@ z_apart a b lt le = omega (arith, ints)
 module _ (by_name : RequestsAreStoredByName) (p : Instance) (valid : IsInstance p) (s : Subject) (sound : IsSoundPlan p (routes_of s)) where
   -- a stop in the routes has exactly one place
   one_place : (r i n : ℕ) → HasStopAt (routes_of s) r i n → (q : ℕ) × (j : ℕ) × HasStopOnlyAt (routes_of s) q j n
-  one_place r i n t = let f = request_of by_name p valid n (sound.known r i n t) in by f.0 f.1 f.2
+  one_place r i n t = let f = request_of by_name p valid n (sound.live r i n t) in by f.0 f.1 f.2
     where
       by : (q : Request) → IsNamed p (request_name q) q → HasStop n q → (q : ℕ) × (j : ℕ) × HasStopOnlyAt (routes_of s) q j n
       by (Single a) at has =
@@ -358,15 +358,15 @@ module _ (by_name : RequestsAreStoredByName) (p : Instance) (valid : IsInstance 
       let in_time = sound.returns b.0 r route b.1.1 b.1.2 in
       omega arith
 
-  keeps_known : (r i n : ℕ) → IsUnknown p (routes_of s) r i n → ⊥
-  keeps_known r i n b = by (stop_at p n) b.1 (sound.known r i n b.0)
+  keeps_live : (r i n : ℕ) → IsUnknown p (routes_of s) r i n → ⊥
+  keeps_live r i n b = by (stop_at p n) b.1 (sound.live r i n b.0)
     where
       by : (o : Option Stop) → o ≡ None → IsSome o → ⊥
       by None e some = (let g : false ≡ true = some in cc)
       by (Some x) e some = none_some x (sym e)
 
   pub keeps_from : Keeps p s MissingStop → KeepsRules 1 8 p s
-  keeps_from missing UnknownStop r i n from to b = keeps_known r i n b
+  keeps_from missing UnknownStop r i n from to b = keeps_live r i n b
   keeps_from missing VisitedTwice r i n from to b = keeps_twice r i n b
   keeps_from missing MissingStop r i n from to b = missing r i n b
   keeps_from missing SplitPair r i n from to b = keeps_whole r i n b

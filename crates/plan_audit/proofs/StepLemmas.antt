@@ -34,7 +34,7 @@ use Rattle.plan_audit.proofs.FailingPlaces.{IsLeastOf, rule_nothing, rule_found}
 use Rattle.plan_audit.proofs.RuleLemmas.{unknown_rule, repeated_rule, missing_rule, split_rule, delivered_rule}
 use Rattle.plan_audit.proofs.TimeLemmas.{route_in, load_rule, late_rule, late_return_nothing, late_return_found}
 use Rattle.plan_audit.proofs.PinLemmas.{pin_found, pin_nothing}
-use Rattle.plan_audit.proofs.PlanLemmas.{known_below, is_plan, distinct_routes}
+use Rattle.plan_audit.proofs.PlanLemmas.{known_below, is_plan, live_routes}
 use Rattle.plan_audit.proofs.VerdictLemmas.{broken_verdict, KeepsBelow, Keeps, keeps_none, keeps_more, keeps_rules, least_broken, reported_at, unserved_least, missing_least, missing_kept}
 
 -- the verdict that a rule is broken at a fault
@@ -92,7 +92,7 @@ none_of s routes is B none r i n b = none r i n (subst (λ (l : List (List ℕ))
 -- rules 1 to 5 for a plan or solution with these routes, if u is the first request that must be served and is
 -- not
 module _ (p : Instance) (routes : List (List ℕ)) (valid : IsInstance p) (s : Subject) (is : routes_of s ≡ routes) (u : Option ℕ)
-    (unserved_is : u ≡ unserved_of p s) where
+    (asked : u ≡ unserved_of p s) where
   after_unknown : NoneUnknown p routes → KeepsBelow 1 2 p s
   after_unknown a = keeps_more p s 1 UnknownStop (keeps_none p s 1) (none_of s routes is (IsUnknown p) (known p routes a))
 
@@ -102,7 +102,7 @@ module _ (p : Instance) (routes : List (List ℕ)) (valid : IsInstance p) (s : S
   after_missing : NoneUnknown p routes → NoneRepeated p routes → u ≡ None → NoneMissing p routes → KeepsBelow 1 4 p s
   after_missing a b none c =
       keeps_more p s 1 MissingStop (after_repeated a b)
-      (missing_kept p s u unserved_is none (none_of s routes is (IsMissing p) (rule_nothing (IsMissing p routes) _ routes (missing_rule p routes) c)))
+      (missing_kept p s u asked none (none_of s routes is (IsMissing p) (rule_nothing (IsMissing p routes) _ routes (missing_rule p routes) c)))
 
   after_split : NoneUnknown p routes → NoneRepeated p routes → u ≡ None → NoneMissing p routes → NoneSplit p routes → KeepsBelow 1 5 p s
   after_split a b none c d = keeps_more p s 1 SplitPair (after_missing a b none c) (none_of s routes is (IsSplit p) (whole p routes b d))
@@ -123,13 +123,13 @@ module _ (p : Instance) (routes : List (List ℕ)) (valid : IsInstance p) (s : S
       → IsBrokenWithin 1 5 p s v
   unserved_step a b n v eq at =
       subst (IsBrokenWithin 1 5 p s) (sym eq)
-      (MissingStop, refl, least_broken p s 1 5 MissingStop 0 0 n (omega arith) (omega arith) (after_repeated a b) (unserved_least p valid s u unserved_is n at))
+      (MissingStop, refl, least_broken p s 1 5 MissingStop 0 0 n (omega arith) (omega arith) (after_repeated a b) (unserved_least p valid s u asked n at))
 
   pub missing_step : NoneUnknown p routes → NoneRepeated p routes → u ≡ None → (f : Fault) (v : Verdict) → v ≡ fault_verdict MissingStop f
       → first_fault (place_fault_by (λ _ _ _ n. missing_at p routes n)) 0 routes ≡ Some f → IsBrokenWithin 1 5 p s v
   missing_step a b none f v eq at =
       broken_step 1 5 p s MissingStop f v eq (omega arith) (omega arith) (after_repeated a b)
-      (missing_least p s u unserved_is none (suc f.route) (suc f.place) f.stop
+      (missing_least p s u asked none (suc f.route) (suc f.place) f.stop
       (least_of s routes is (IsMissing p) (suc f.route) (suc f.place) f.stop (rule_found (IsMissing p routes) _ routes (missing_rule p routes) f at)))
 
   pub split_step : NoneUnknown p routes → NoneRepeated p routes → u ≡ None → NoneMissing p routes → (f : Fault) (v : Verdict) → v ≡ fault_verdict SplitPair f
@@ -155,15 +155,15 @@ module _ (p : Instance) (routes : List (List ℕ)) (valid : IsInstance p) (s : S
       (rule_nothing (IsEarlyDelivery p routes) _ routes (delivered_rule p routes (once p routes b) (whole p routes b d)) e)))
 
 -- the stops of a plan or solution that passes are distinct stops of current requests
-pub distinct_if_passing : (p : Instance) (s : Subject) (cost : Cost) → IsVerdict p s (Pass cost) → All (AreDistinctStops p) (routes_of s)
-distinct_if_passing p s cost is =
-    distinct_routes p (routes_of s) (λ r i n b. is.0 UnknownStop r i n (omega arith) (omega arith) b) (λ r i n b. is.0 VisitedTwice r i n (omega arith) (omega arith) b)
+pub live_passing : (p : Instance) (s : Subject) (cost : Cost) → IsVerdict p s (Pass cost) → All (AreDistinctStops p) (routes_of s)
+live_passing p s cost is =
+    live_routes p (routes_of s) (λ r i n b. is.0 UnknownStop r i n (omega arith) (omega arith) b) (λ r i n b. is.0 VisitedTwice r i n (omega arith) (omega arith) b)
 
-pub distinct_above : (p : Instance) (s : Subject) (rule r i n : ℕ) → IsVerdict p s (Broken rule r i n) → 2 < rule → All (AreDistinctStops p) (routes_of s)
-distinct_above p s rule r i n is above =
+pub live_above : (p : Instance) (s : Subject) (rule r i n : ℕ) → IsVerdict p s (Broken rule r i n) → 2 < rule → All (AreDistinctStops p) (routes_of s)
+live_above p s rule r i n is above =
     let number = is.1 in
     let least = is.2 in
-    distinct_routes p (routes_of s)
+    live_routes p (routes_of s)
     (λ q j m b. elim (least.least UnknownStop q j m (omega arith) (omega arith) b) [ inl lt ↦ omega arith | inr e ↦ (let same = e.0 in omega arith) ])
     (λ q j m b. elim (least.least VisitedTwice q j m (omega arith) (omega arith) b) [ inl lt ↦ omega arith | inr e ↦ (let same = e.0 in omega arith) ])
 

@@ -50,11 +50,11 @@ use Rattle.plan_audit.proofs.FirstLemmas.{none_some, fault_found, fault_nothing,
 use Rattle.plan_audit.proofs.FailingPlaces.{Spot, IsTestOf, IsLeastOf}
 
 -- if the routes and the places of a route count from 0 instead of 1, both numbers are less by 1
-pub has_stop_at_items : (routes : List (List ℕ)) (route : List ℕ) (r i n : ℕ) → item_at routes r ≡ Some route → item_at route i ≡ Some n
+pub standing_in : (routes : List (List ℕ)) (route : List ℕ) (r i n : ℕ) → item_at routes r ≡ Some route → item_at route i ≡ Some n
     → (q : ℕ) × (j : ℕ) × (r ≡ suc q) × (i ≡ suc j) × (slice_get routes q ≡ Some route) × (slice_get route j ≡ Some n)
-has_stop_at_items routes route zero i n at on = absurd (none_some route at)
-has_stop_at_items routes route (suc r) zero n at on = absurd (none_some n on)
-has_stop_at_items routes route (suc r) (suc i) n at on = (r, i, refl, refl, at, on)
+standing_in routes route zero i n at on = absurd (none_some route at)
+standing_in routes route (suc r) zero n at on = absurd (none_some n on)
+standing_in routes route (suc r) (suc i) n at on = (r, i, refl, refl, at, on)
 
 -- a rule on visits and its test
 module _ (p : Instance) (fails : Visit → Bool) (Fails : List ℕ → ℕ → Type 0)
@@ -76,7 +76,7 @@ module _ (p : Instance) (fails : Visit → Bool) (Fails : List ℕ → ℕ → T
 
       from : (r i s : ℕ) → visit_broken r i s → (q : ℕ) × (j : ℕ) × (r ≡ suc q) × (i ≡ suc j) × Spot (λ _ route i n. visit_fault p fails route i n) routes q j s
       from r i s b =
-          let t = has_stop_at_items routes b.0 r i s b.1 b.2 in
+          let t = standing_in routes b.0 r i s b.1 b.2 in
           (t.0, t.1, t.2, t.3, (b.0, s, t.4, t.5, ap (λ c. cond c (Some s) None) (said b.0 t.1 (subst (λ i. Fails b.0 i) t.3 b.3))))
 
 pub true_from : (b : Bool) → T b → b ≡ true
@@ -128,9 +128,9 @@ return_facts p route t is = by (eqb (length route) 0) refl (nat_lt p.depot.lates
         let reported : ◌≡◌ {A = PlaceFault} (record { place = length route; stop = 0 }) t = same_Some _ _ (rw (ea, eb) at tested) in
         (positive (length route) ea, sym (ap (λ (t : PlaceFault). t.place) reported), sym (ap (λ (t : PlaceFault). t.stop) reported), ltb-true _ _ eb)
 
-return_reported : (p : Instance) (route : List ℕ) → 0 < length route → p.depot.latest < start p route (length route + 1)
+return_tells : (p : Instance) (route : List ℕ) → 0 < length route → p.depot.latest < start p route (length route + 1)
     → late_return_fault p route ≡ Some (record { place = length route; stop = 0 })
-return_reported p route some late = rw (nonzero (length route) some, lt-ltb _ _ late) refl
+return_tells p route some late = rw (nonzero (length route) some, lt-ltb _ _ late) refl
 
 -- the index of route r, which is less by 1 because routes count from 1
 pub route_in : (routes : List (List ℕ)) (route : List ℕ) (r : ℕ) → item_at routes r ≡ Some route → (q : ℕ) × (r ≡ suc q) × (slice_get routes q ≡ Some route)
@@ -143,7 +143,7 @@ late_return_nothing p routes is r i n b =
     let route = b.1.0 in
     let at = route_in routes route r b.1.1 in
     let late : p.depot.latest < start p route (length route + 1) = subst (λ i. p.depot.latest < start p route i) b.1.3 b.1.5 in
-    none_some _ (sym (fault_nothing (λ _ route. late_return_fault p route) routes is at.0 route at.2) ∙ return_reported p route b.1.2 late)
+    none_some _ (sym (fault_nothing (λ _ route. late_return_fault p route) routes is at.0 route at.2) ∙ return_tells p route b.1.2 late)
 
 pub late_return_found : (p : Instance) (routes : List (List ℕ)) → p.kind ≡ LiLim → (f : Fault) → first_fault (λ _ route. late_return_fault p route) 0 routes ≡ Some f
     → IsLeastOf (IsLateReturn p routes) (suc f.route) (suc f.place) f.stop
@@ -151,23 +151,23 @@ late_return_found p routes kind f is =
     let first = fault_found (λ _ route. late_return_fault p route) routes f is in
     let place = first.place in
     let index : first.index ≡ f.route = omega arith in
-    let item_at_index : slice_get routes f.route ≡ Some (first.item) = subst (λ r. slice_get routes r ≡ Some (first.item)) index (first.item_at_index) in
+    let stands : slice_get routes f.route ≡ Some (first.item) = subst (λ r. slice_get routes r ≡ Some (first.item)) index (first.stands) in
     let facts = return_facts p (first.item) (record { place = f.place; stop = f.stop }) (first.reported) in
     let following : suc f.place ≡ length (first.item) + 1 = (let e = facts.1 in omega arith) in
     record {
-      broken = (kind, (first.item, item_at_index, facts.0, following, facts.2, subst (λ i. p.depot.latest < start p (first.item) i) (sym following) facts.3));
+      broken = (kind, (first.item, stands, facts.0, following, facts.2, subst (λ i. p.depot.latest < start p (first.item) i) (sym following) facts.3));
       least = λ q j m b. (
           let route = b.1.0 in
           let at = route_in routes route q b.1.1 in
           let late : p.depot.latest < start p route (length route + 1) = subst (λ i. p.depot.latest < start p route i) b.1.3 b.1.5 in
           let le =
           least_at (λ _ route. late_return_fault p route) routes (f.route, record { place = f.place; stop = f.stop }) first at.0 route
-          (record { place = length route; stop = 0 }) at.2 (return_reported p route b.1.2 late) in
+          (record { place = length route; stop = 0 }) at.2 (return_tells p route b.1.2 late) in
           elim (cases_lt f.route at.0) as (λ _. IsNotAfter (suc f.route) (suc f.place) f.stop q j m) [
             | inl lt ↦ (let e = at.1 in inl (omega arith))
             | inr ge ↦ (
                 let here : f.route ≡ at.0 = omega arith in
-                let same : first.item ≡ route = same_Some _ _ (sym (subst (λ r. slice_get routes r ≡ Some (first.item)) here item_at_index) ∙ at.2) in
+                let same : first.item ≡ route = same_Some _ _ (sym (subst (λ r. slice_get routes r ≡ Some (first.item)) here stands) ∙ at.2) in
                 let long : length (first.item) ≡ length route = ap length same in
                 let e = at.1 in let j_is = b.1.3 in let m_is = b.1.4 in let stop = facts.2 in
                 inr (omega arith, inr (omega arith, omega arith)))

@@ -96,8 +96,8 @@ module _ (p : Instance) (routes pins : List (List ℕ)) where
     pins_reported same None e = (planned_step p routes pins kept same e, refl)
     pins_reported same (Some f) e = pin_step p routes pins kept same f (fault_verdict Pin f) refl e
 
-    plan_verdict : IsVerdict p (planned routes pins) of_plan
-    plan_verdict = elim (eqb_tells (length routes) p.fleet) [
+    plan_told : IsVerdict p (planned routes pins) of_plan
+    plan_told = elim (eqb_tells (length routes) p.fleet) [
       | inl t ↦ subst (λ (b : Bool). IsVerdict p (planned routes pins) (cond b of_pins (Broken (rule_number Fleet) 0 0 0))) (sym t.0)
           (pins_reported t.1 (first_pin_mismatch routes pins) refl)
       | inr t ↦ subst (λ (b : Bool). IsVerdict p (planned routes pins) (cond b of_pins (Broken (rule_number Fleet) 0 0 0))) (sym t.0)
@@ -132,7 +132,7 @@ of_fleet p (planned routes pins) = of_plan p routes pins
 of_fleet p (printed routes cost) = of_printed p routes cost
 
 fleet_reported : (p : Instance) (s : Subject) → KeepsRules 1 8 p s → IsVerdict p s (of_fleet p s)
-fleet_reported p (planned routes pins) kept = plan_verdict p routes pins kept
+fleet_reported p (planned routes pins) kept = plan_told p routes pins kept
 fleet_reported p (printed routes cost) kept = printed_reported p routes cost kept (first_route_beyond p.fleet 0 routes) refl
 
 -- ---- all rules
@@ -214,20 +214,20 @@ module _ (p : Instance) (s : Subject) where
     from_load kept None e = from_kind kept e p.kind refl
     from_load kept (Some f) e = broken_mid (fault_verdict Load f) kept (load_step p (routes_of s) s refl f (fault_verdict Load f) refl e)
 
-    module _ (u : Option ℕ) (unserved_is : u ≡ unserved_of p s) (a : NoneUnknown p (routes_of s)) (b : NoneRepeated p (routes_of s)) (none : u ≡ None) where
+    module _ (u : Option ℕ) (asked : u ≡ unserved_of p s) (a : NoneUnknown p (routes_of s)) (b : NoneRepeated p (routes_of s)) (none : u ≡ None) where
       from_delivered : NoneMissing p (routes_of s) → NoneSplit p (routes_of s) → (o : Option Fault) → early_delivery_in ≡ o
           → IsVerdict p s (or_reported o EarlyDelivery of_load)
-      from_delivered c d None e = from_load (placed_step p (routes_of s) valid s refl u unserved_is a b none c d e) overloaded refl
+      from_delivered c d None e = from_load (placed_step p (routes_of s) valid s refl u asked a b none c d e) overloaded refl
       from_delivered c d (Some f) e =
-          broken_low (fault_verdict EarlyDelivery f) (delivered_step p (routes_of s) valid s refl u unserved_is a b none c d f (fault_verdict EarlyDelivery f) refl e)
+          broken_low (fault_verdict EarlyDelivery f) (delivered_step p (routes_of s) valid s refl u asked a b none c d f (fault_verdict EarlyDelivery f) refl e)
 
       from_split : NoneMissing p (routes_of s) → (o : Option Fault) → split ≡ o → IsVerdict p s (or_reported o SplitPair of_delivered)
       from_split c None e = from_delivered c e early_delivery_in refl
-      from_split c (Some f) e = broken_low (fault_verdict SplitPair f) (split_step p (routes_of s) valid s refl u unserved_is a b none c f (fault_verdict SplitPair f) refl e)
+      from_split c (Some f) e = broken_low (fault_verdict SplitPair f) (split_step p (routes_of s) valid s refl u asked a b none c f (fault_verdict SplitPair f) refl e)
 
       from_missing : (o : Option Fault) → missing ≡ o → IsVerdict p s (or_reported o MissingStop of_split)
       from_missing None e = from_split e split refl
-      from_missing (Some f) e = broken_low (fault_verdict MissingStop f) (missing_step p (routes_of s) valid s refl u unserved_is a b none f (fault_verdict MissingStop f) refl e)
+      from_missing (Some f) e = broken_low (fault_verdict MissingStop f) (missing_step p (routes_of s) valid s refl u asked a b none f (fault_verdict MissingStop f) refl e)
 
     from_unserved : NoneUnknown p (routes_of s) → NoneRepeated p (routes_of s) → (u : Option ℕ) → unserved_of p s ≡ u → IsVerdict p s (or_unserved u of_missing)
     from_unserved a b None e = from_missing None (sym e) a b refl missing refl
@@ -250,11 +250,11 @@ module _ (p : Instance) (s : Subject) where
     is_verdict = from_unknown unknown refl
 
 -- each list of distinct current stops is feasible alone or has a fault
-module _ (p : Instance) (route : List ℕ) (distinct : AreDistinctStops p route) where
-  abbrev HasAnswer : Type 0
-  HasAnswer = IsFeasibleAlone p route ⊎ ((rule : ℕ) × IsFaultAlone p route rule)
+module _ (p : Instance) (route : List ℕ) (live : AreDistinctStops p route) where
+  abbrev IsAsked : Type 0
+  IsAsked = IsFeasibleAlone p route ⊎ ((rule : ℕ) × IsFaultAlone p route rule)
 
-  reported : (k : _) → IsFirstBrokenAlone p route k → HasAnswer
+  reported : (k : _) → IsFirstBrokenAlone p route k → IsAsked
   reported k least = inr (rule_number k, (k, refl, least))
 
   abbrev missing_reported : Bool
@@ -270,35 +270,35 @@ module _ (p : Instance) (route : List ℕ) (distinct : AreDistinctStops p route)
   late_reported = is_some (first_place_fault (visit_fault p is_late route) 0 route)
 
   alone_return : missing_reported ≡ false → delivered_reported ≡ false → loaded_reported ≡ false → p.kind ≡ LiLim → late_reported ≡ false → (b : Bool)
-      → is_some (late_return_fault p route) ≡ b → HasAnswer
-  alone_return m d l kind t true e = reported _ (return_fault p route distinct _ refl m _ refl d _ refl l kind _ refl t _ refl e)
-  alone_return m d l kind t false e = inl (timed_alone p route distinct _ refl m _ refl d _ refl l kind _ refl t _ refl e)
+      → is_some (late_return_fault p route) ≡ b → IsAsked
+  alone_return m d l kind t true e = reported _ (return_fault p route live _ refl m _ refl d _ refl l kind _ refl t _ refl e)
+  alone_return m d l kind t false e = inl (timed_alone p route live _ refl m _ refl d _ refl l kind _ refl t _ refl e)
 
-  alone_late : missing_reported ≡ false → delivered_reported ≡ false → loaded_reported ≡ false → p.kind ≡ LiLim → (b : Bool) → late_reported ≡ b → HasAnswer
-  alone_late m d l kind true e = reported _ (late_fault p route distinct _ refl m _ refl d _ refl l kind _ refl e)
+  alone_late : missing_reported ≡ false → delivered_reported ≡ false → loaded_reported ≡ false → p.kind ≡ LiLim → (b : Bool) → late_reported ≡ b → IsAsked
+  alone_late m d l kind true e = reported _ (late_fault p route live _ refl m _ refl d _ refl l kind _ refl e)
   alone_late m d l kind false e = alone_return m d l kind e (is_some (late_return_fault p route)) refl
 
-  alone_kind : missing_reported ≡ false → delivered_reported ≡ false → loaded_reported ≡ false → (k : Kind) → p.kind ≡ k → HasAnswer
+  alone_kind : missing_reported ≡ false → delivered_reported ≡ false → loaded_reported ≡ false → (k : Kind) → p.kind ≡ k → IsAsked
   alone_kind m d l LiLim e = alone_late m d l e (late_reported) refl
-  alone_kind m d l Vrp e = inl (untimed_alone p route distinct _ refl m _ refl d _ refl l e)
+  alone_kind m d l Vrp e = inl (untimed_alone p route live _ refl m _ refl d _ refl l e)
 
-  alone_load : missing_reported ≡ false → delivered_reported ≡ false → (b : Bool) → loaded_reported ≡ b → HasAnswer
-  alone_load m d true e = reported _ (load_fault p route distinct _ refl m _ refl d _ refl e)
+  alone_load : missing_reported ≡ false → delivered_reported ≡ false → (b : Bool) → loaded_reported ≡ b → IsAsked
+  alone_load m d true e = reported _ (load_fault p route live _ refl m _ refl d _ refl e)
   alone_load m d false e = alone_kind m d e p.kind refl
 
-  alone_delivered : missing_reported ≡ false → (b : Bool) → delivered_reported ≡ b → HasAnswer
-  alone_delivered m true e = reported _ (delivered_fault p route distinct _ refl m _ refl e)
+  alone_delivered : missing_reported ≡ false → (b : Bool) → delivered_reported ≡ b → IsAsked
+  alone_delivered m true e = reported _ (delivered_fault p route live _ refl m _ refl e)
   alone_delivered m false e = alone_load m e (loaded_reported) refl
 
-  alone_missing : (b : Bool) → missing_reported ≡ b → HasAnswer
-  alone_missing true e = reported _ (missing_fault p route distinct _ refl e)
+  alone_missing : (b : Bool) → missing_reported ≡ b → IsAsked
+  alone_missing true e = reported _ (missing_fault p route live _ refl e)
   alone_missing false e = alone_delivered e (delivered_reported) refl
 
-  has_answer : HasAnswer
-  has_answer = alone_missing (missing_reported) refl
+  asked : IsAsked
+  asked = alone_missing (missing_reported) refl
 
 pub subjects_have_verdicts : SubjectsHaveVerdicts
 subjects_have_verdicts = (verdict_of, is_verdict)
 
 pub routes_have_answers : RoutesHaveAnswers
-routes_have_answers p route distinct = has_answer p route distinct
+routes_have_answers p route live = asked p route live

@@ -13,7 +13,7 @@ use Rattle.plan_audit.specs.declared.rules.Verdict.{Verdict}
 use Rattle.plan_audit.specs.declared.rules.Verdict.TheVariants.{Pass, Broken}
 use Rattle.plan_audit.proofs.FirstLemmas.{none_some}
 use Rattle.plan_audit.proofs.FailingPlaces.{IsLeastOf}
-use Rattle.plan_audit.proofs.RuleLemmas.{has_stop_at_index}
+use Rattle.plan_audit.proofs.RuleLemmas.{standing}
 use Rattle.plan_audit.proofs.ServedLemmas.{unserved_found, unserved_nothing}
 
 -- the rule with a number
@@ -142,31 +142,31 @@ reported_at low high p s k r i n b = (
 -- rule 3, for a plan or solution in which u is the first request that must be served and is not
 module _ (p : Instance) where
   pub unserved_least : IsInstance p → (s : Subject) (u : Option ℕ) → u ≡ unserved_of p s → (n : ℕ) → u ≡ Some n → IsLeastOf (Breaks p s MissingStop) 0 0 n
-  unserved_least valid (planned routes pins) u unserved_is n is = absurd (none_some n (sym unserved_is ∙ is))
-  unserved_least valid (printed routes cost) u unserved_is n is =
-      let first = unserved_found routes p.requests n valid.ascending (sym unserved_is ∙ is) in
+  unserved_least valid (planned routes pins) u asked n is = absurd (none_some n (sym asked ∙ is))
+  unserved_least valid (printed routes cost) u asked n is =
+      let first = unserved_found routes p.requests n valid.ascending (sym asked ∙ is) in
       record {
         broken = inr ((refl, refl), (first.request, first.found, first.nowhere));
         least = λ q j m b. elim b as (λ _. IsNotAfter 0 0 n q j m) [
-          | inl a ↦ (let t = has_stop_at_index routes q j a.0 a.1 in let e = t.2 in inl (omega arith))
+          | inl a ↦ (let t = standing routes q j a.0 a.1 in let e = t.2 in inl (omega arith))
           | inr t ↦ (let a = t.0.0 in let b = t.0.1 in inr (sym a, inr (sym b, first.least m t.1.0 t.1.1 t.1.2)))
         ];
       }
 
   pub missing_least : (s : Subject) (u : Option ℕ) → u ≡ unserved_of p s → u ≡ None → (r i n : ℕ) → IsLeastOf (IsMissing p (routes_of s)) r i n
       → IsLeastOf (Breaks p s MissingStop) r i n
-  missing_least (planned routes pins) u unserved_is none r i n one = record { broken = one.broken; least = one.least }
-  missing_least (printed routes cost) u unserved_is none r i n one = record {
+  missing_least (planned routes pins) u asked none r i n one = record { broken = one.broken; least = one.least }
+  missing_least (printed routes cost) u asked none r i n one = record {
     broken = inl (one.broken);
     least = λ q j m b. elim b as (λ _. IsNotAfter r i n q j m) [
       | inl a ↦ one.least q j m a
-      | inr t ↦ absurd (unserved_nothing routes p.requests (sym unserved_is ∙ none) m t.1.0 t.1.1 t.1.2)
+      | inr t ↦ absurd (unserved_nothing routes p.requests (sym asked ∙ none) m t.1.0 t.1.1 t.1.2)
     ];
   }
 
   pub missing_kept : (s : Subject) (u : Option ℕ) → u ≡ unserved_of p s → u ≡ None → ((r i n : ℕ) → IsMissing p (routes_of s) r i n → ⊥) → Keeps p s MissingStop
-  missing_kept (planned routes pins) u unserved_is none kept = kept
-  missing_kept (printed routes cost) u unserved_is none kept = λ r i n b. elim b [
+  missing_kept (planned routes pins) u asked none kept = kept
+  missing_kept (printed routes cost) u asked none kept = λ r i n b. elim b [
     | inl a ↦ kept r i n a
-    | inr t ↦ unserved_nothing routes p.requests (sym unserved_is ∙ none) n t.1.0 t.1.1 t.1.2
+    | inr t ↦ unserved_nothing routes p.requests (sym asked ∙ none) n t.1.0 t.1.1 t.1.2
   ]

@@ -41,7 +41,7 @@ IsPlaceOf routes r route i = (item_at routes r ≡ Some route) × (1 ≤ i) × (
 -- one vehicle, its pickup before its delivery. No vehicle exceeds its capacity. With time windows, each service
 -- starts within its stop's window, and each vehicle that leaves returns by the depot's latest time.
 pub record IsSoundPlan (p : Instance) (routes : List (List ℕ)) : Type 0 where
-  pub known : (r i n : ℕ) → HasStopAt routes r i n → IsKnownStop p n
+  pub live : (r i n : ℕ) → HasStopAt routes r i n → IsKnownStop p n
   pub served : (name : ℕ) (request : Request) → IsNamed p name request → IsPlanned routes request → IsServedOnce routes request
   pub loads : (r i : ℕ) (route : List ℕ) → IsPlaceOf routes r route i → load p route i ≤ℤ pos p.capacity
   pub windows : p.kind ≡ LiLim → (r i : ℕ) (route : List ℕ) → IsPlaceOf routes r route i

@@ -31,9 +31,9 @@ pub(crate) fn first_place_fault<F: Fn(usize, u32) -> Option<u32>>(
     test: F,
 ) -> Option<PlaceFault>
     requires { F.IsAlwaysCallable test }
-    ensures reported { (expected : ℕ → ℕ → Option ℕ)
-        → ((i n : ℕ) (o : Option ℕ) → Contains route.now n → F.post test i n o → o ≡ expected i n)
-        → result ≡ first_place_fault expected 0 route.now }
+    ensures reported { (tells : ℕ → ℕ → Option ℕ)
+        → ((i n : ℕ) (o : Option ℕ) → Contains route.now n → F.post test i n o → o ≡ tells i n)
+        → result ≡ first_place_fault tells 0 route.now }
     ensures fits { IfSome result (λ t. t.place + 1 < 2 ^ 64) }
 {
     for (place, stop) in route.iter().enumerate() {
@@ -50,10 +50,10 @@ pub(crate) fn first_fault<F: Fn(usize, &[u32]) -> Option<PlaceFault>>(
     test: F,
 ) -> Option<Fault>
     requires { (k : ℕ) (route : Bor (List ℕ)) → Contains routes.now route.now → F.pre test k route }
-    ensures reported { (expected : ℕ → List ℕ → Option PlaceFault)
+    ensures reported { (tells : ℕ → List ℕ → Option PlaceFault)
         → ((k : ℕ) (route : Bor (List ℕ)) (o : Option PlaceFault) → Contains routes.now route.now
-        → F.post test k route o → o ≡ expected k route.now)
-        → result ≡ first_fault expected 0 routes.now }
+        → F.post test k route o → o ≡ tells k route.now)
+        → result ≡ first_fault tells 0 routes.now }
     ensures route { IfSome result (λ f. f.route + 1 < 2 ^ 64) }
     ensures place { ((k : ℕ) (route : Bor (List ℕ)) (o : Option PlaceFault) → F.post test k route o
         → IfSome o (λ t. t.place + 1 < 2 ^ 64)) → IfSome result (λ f. f.place + 1 < 2 ^ 64) }

@@ -19,7 +19,7 @@ pub(crate) struct Scan<'a> {
     pub routes: &'a [Route],
     first_positions: Vec<Option<StopPosition>>,
     ghost sized: { problem.now.next_number ≤ vec_len first_positions },
-    ghost positions: { (n : ℕ) → n < vec_len first_positions
+    ghost seated: { (n : ℕ) → n < vec_len first_positions
         → slice_index_or first_positions.items n None ≡ position_of routes.now n },
 }
 

@@ -23,7 +23,7 @@ pub(crate) fn cost_within_limits(
     routes: &[Route],
     unplanned: u64,
 ) -> Option<Cost>
-    requires distinct { All (AreDistinctStops problem.now) routes.now }
+    requires live { All (AreDistinctStops problem.now) routes.now }
     requires counted { unplanned ≡ unplanned_count problem.now routes.now }
     ensures kept { IfSome result (λ _. (s : Subject) → routes_of s ≡ routes.now
         → KeepsRules 6 8 problem.now s) }

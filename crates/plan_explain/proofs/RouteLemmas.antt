@@ -4,7 +4,7 @@ use Rattle.std.specs.List.{IsDistinct}
 use Rattle.std.proofs.lemmas.Option.{slice_get_cases}
 use Rattle.plan_types.specs.Instance.{Instance}
 use Rattle.route_sched.specs.Route.{AreDistinctStops}
-use Rattle.plan_audit.proofs.StepLemmas.{distinct_if_passing}
+use Rattle.plan_audit.proofs.StepLemmas.{live_passing}
 use Rattle.plan_audit.specs.Verdict.{printed, IsVerdict, rule_of}
 use Rattle.plan_audit.specs.declared.rules.Verdict.{Verdict}
 use Rattle.plan_audit.specs.declared.rules.Verdict.TheVariants.{Broken, Pass}
@@ -27,7 +27,7 @@ reported_live p routes (suc k) live = elim (slice_get_cases routes k).1 [
 
 -- If the schedule is known, the stops of every route are known and distinct.
 pub live_driven : (p : Instance) (routes : List (List ℕ)) (cost : ℕ) (v : Verdict) → verdict_schedule_is_known v ≡ true → IsVerdict p (printed routes cost) v → All (AreDistinctStops p) routes
-live_driven p routes cost (Pass c) known is = distinct_if_passing p (printed routes cost) c is
+live_driven p routes cost (Pass c) known is = live_passing p (printed routes cost) c is
 live_driven p routes cost (Broken rule r i n) known is =
     let reported : rule_of rule ≡ Some is.0 = ap rule_of is.1 ∙ number_reported is.0 in
     distinct_if_known p (printed routes cost) is.0 r i n (is.0, refl, is.2) (sym (ap rule_schedule_is_known reported) ∙ known)

@@ -6,7 +6,7 @@ use Rattle.plan_audit.specs.Verdict.{IsVerdict, Subject, routes_of, rule_number}
 use Rattle.plan_audit.specs.declared.rules.Rule.{Rule}
 use Rattle.plan_audit.specs.declared.rules.Rule.TheVariants.{UnknownStop, VisitedTwice, MissingStop, SplitPair, EarlyDelivery, Load, Late, LateReturn, Fleet, Pin, PrintedCost}
 use Rattle.plan_audit.specs.declared.rules.Verdict.TheVariants.{Broken}
-use Rattle.plan_audit.proofs.StepLemmas.{distinct_above}
+use Rattle.plan_audit.proofs.StepLemmas.{live_above}
 use Rattle.rule_violations.specs.KnownSchedule.{schedule_is_known}
 use Rattle.rule_violations.proofs.RuleLemmas.{not_so}
 
@@ -25,4 +25,4 @@ above_two PrintedCost h = omega arith
 
 pub distinct_if_known : (p : Instance) (s : Subject) (k : Rule) (r i n : ℕ) → IsVerdict p s (Broken (rule_number k) r i n) → schedule_is_known k ≡ true
     → All (AreDistinctStops p) (routes_of s)
-distinct_if_known p s k r i n is h = distinct_above p s (rule_number k) r i n is (above_two k h)
+distinct_if_known p s k r i n is h = live_above p s (rule_number k) r i n is (above_two k h)

@@ -18,8 +18,8 @@ use Rattle.plan_audit.specs.Rules.{IsMissing}
 use Rattle.plan_audit.specs.Verdict.{IsUnserved}
 use Rattle.plan_audit.specs.declared.rules.Rule.TheVariants.{MissingStop}
 use Rattle.plan_audit.proofs.FirstLemmas.{none_some}
-use Rattle.plan_audit.proofs.RuleLemmas.{has_stop_at_index}
-use Rattle.plan_audit.proofs.ServedLemmas.{IsNowhere, below_less, not_visited_from_test, not_served}
+use Rattle.plan_audit.proofs.RuleLemmas.{standing}
+use Rattle.plan_audit.proofs.ServedLemmas.{IsNowhere, below_less, no_seat, not_served}
 use Rattle.rule_violations.specs.Violations.{violations_of, missing_violation, position_at, stop_violations, stop_test, violations_from, unserved_violation, unserved_violations}
 use Rattle.rule_violations.specs.Laws.{AreAll, AreAscending, IsBefore, IsViolation}
 use Rattle.rule_violations.specs.declared.violations.Violation.{Violation}
@@ -146,12 +146,12 @@ module _ (p : Instance) (routes : List (List ℕ)) where
       to b c =
           let t = places_to (stop_test p routes MissingStop) routes b c in
           let e = partner_reported t.0 t.1 (partner_at p t.2.0) b t.2.2 in
-          subst IsMissingViolation e.3 ((t.2.0, t.2.1, e.1, not_visited_from_test routes e.0 e.2), refl)
+          subst IsMissingViolation e.3 ((t.2.0, t.2.1, e.1, no_seat routes e.0 e.2), refl)
 
       from : (b : Violation) → IsMissingViolation b → Contains (stop_violations p routes MissingStop) b
       from b is =
           let n = is.0.0 in
-          let st = has_stop_at_index routes b.route b.place n is.0.1 in
+          let st = standing routes b.route b.place n is.0.1 in
           let r = st.0 in let i = st.1 in
           let reported : violation_at r i b.stop 0 ≡ b =
           ap (λ x. record { route = x; place = suc i; stop = b.stop; by = 0 }) (sym st.2)
@@ -181,7 +181,7 @@ module _ (p : Instance) (routes : List (List ℕ)) where
         ascending = ascending_append (unserved_violations p routes) (stop_violations p routes MissingStop) (first.ascending) (rest.ascending) (λ b c here there. (
             let u = ((first.each) b).0 here in
             let v = ((rest.each) c).0 there in
-            let st = has_stop_at_index routes c.route c.place (v.0.0) v.0.1 in
+            let st = standing routes c.route c.place (v.0.0) v.0.1 in
             let none = u.0 in let some = st.2 in
             inl (omega arith)));
       }

@@ -8,8 +8,8 @@ use Rattle.plan_audit.specs.Rules.{HasStopAt}
 use Rattle.plan_audit.specs.Verdict.{Breaks, printed}
 use Rattle.plan_audit.specs.declared.rules.Rule.{Rule}
 use Rattle.plan_audit.proofs.FirstLemmas.{none_some}
-use Rattle.plan_audit.proofs.RuleLemmas.{has_stop_at_index}
-use Rattle.plan_audit.proofs.PositionLemmas.{HasStopAtIndex}
+use Rattle.plan_audit.proofs.RuleLemmas.{standing}
+use Rattle.plan_audit.proofs.PositionLemmas.{Sits}
 use Rattle.rule_violations.specs.Violations.{violation_if, position_at, violations_at_places, violations_in_routes}
 use Rattle.rule_violations.specs.Laws.{AreAll, AreAscending, IsBefore, IsViolation, excess}
 use Rattle.rule_violations.specs.declared.violations.Violation.{Violation}
@@ -36,7 +36,7 @@ zero-plus j = omega arith
 module _ (test : ℕ → List ℕ → ℕ → ℕ → Option Violation) (routes : List (List ℕ)) where
   -- b is the violation at place i of route r, both counted from 0
   abbrev pub IsReportedAt : ℕ → ℕ → Violation → Type 0
-  IsReportedAt r i b = (n : ℕ) × (t : HasStopAtIndex routes r i n) × (test r t.0 i n ≡ Some b)
+  IsReportedAt r i b = (n : ℕ) × (t : Sits routes r i n) × (test r t.0 i n ≡ Some b)
 
   pub places_to : (b : Violation) → Contains (violations_in_routes test routes) b → (r : ℕ) × (i : ℕ) × IsReportedAt r i b
   places_to b c =
@@ -90,10 +90,10 @@ module _ (p : Instance) (routes : List (List ℕ)) (k : Rule) (holds : ℕ → L
   abbrev pub rule_test : ℕ → List ℕ → ℕ → ℕ → Option Violation
   rule_test r route i n = violation_if (holds r route i n) (position_at r i) n (over r route i n)
 
-  pub rule_places : ((r i n : ℕ) (t : HasStopAtIndex routes r i n) → holds r (t.0) i n ≡ true → Broken_at (suc r) (suc i) n)
-      → ((r i n : ℕ) (t : HasStopAtIndex routes r i n) → Broken_at (suc r) (suc i) n → holds r (t.0) i n ≡ true)
+  pub rule_places : ((r i n : ℕ) (t : Sits routes r i n) → holds r (t.0) i n ≡ true → Broken_at (suc r) (suc i) n)
+      → ((r i n : ℕ) (t : Sits routes r i n) → Broken_at (suc r) (suc i) n → holds r (t.0) i n ≡ true)
       → ((r i n : ℕ) → Broken_at r i n → HasStopAt routes r i n)
-      → ((r i n : ℕ) (t : HasStopAtIndex routes r i n) → over r (t.0) i n ≡ excess p routes k (suc r) (suc i))
+      → ((r i n : ℕ) (t : Sits routes r i n) → over r (t.0) i n ≡ excess p routes k (suc r) (suc i))
       → AreAll (IsViolation p routes k) (violations_in_routes rule_test routes)
   rule_places sound complete item_at_index measured = record {
     each = λ b. (to b, from b);
@@ -113,7 +113,7 @@ module _ (p : Instance) (routes : List (List ℕ)) (k : Rule) (holds : ℕ → L
 
       from : (b : Violation) → IsViolation p routes k b → Contains (violations_in_routes rule_test routes) b
       from b is =
-          let st = has_stop_at_index routes b.route b.place b.stop (item_at_index b.route b.place b.stop is.0) in
+          let st = standing routes b.route b.place b.stop (item_at_index b.route b.place b.stop is.0) in
           let r = st.0 in let i = st.1 in let at_index = st.4 in
           let here : Broken_at (suc r) (suc i) b.stop = subst (λ y. Broken_at (suc r) y b.stop) st.3 (subst (λ x. Broken_at x b.place b.stop) st.2 is.0) in
           let by : over r at_index.0 i b.stop ≡ b.by =

@@ -7,8 +7,8 @@ use Rattle.route_sched.specs.Cost.{has_stop}
 use Rattle.plan_audit.specs.Rules.{IsVisited}
 use Rattle.plan_audit.specs.FirstFault.{place_of}
 use Rattle.plan_audit.proofs.FirstLemmas.{none_some}
-use Rattle.plan_audit.proofs.PositionLemmas.{HasStopAtIndex}
-use Rattle.plan_audit.proofs.ServedLemmas.{visited_from_test}
+use Rattle.plan_audit.proofs.PositionLemmas.{Sits}
+use Rattle.plan_audit.proofs.ServedLemmas.{a_seat}
 use Rattle.rule_violations.specs.Positions.{first_position, position_from}
 use Rattle.rule_violations.specs.declared.positions.PrintedPosition.{PrintedPosition}
 
@@ -58,8 +58,8 @@ pub record IsFirstPosition (n k : ℕ) (routes : List (List ℕ)) (s : PrintedPo
   pub at_place : ℕ
   pub route_is : s.route ≡ k + at_route
   pub place_is : s.place ≡ 1 + at_place
-  pub at_index : HasStopAtIndex routes at_route at_place n
-  pub least : (r i : ℕ) → HasStopAtIndex routes r i n → (at_route < r) ⊎ ((at_route ≡ r) × (at_place ≤ i))
+  pub at_index : Sits routes at_route at_place n
+  pub least : (r i : ℕ) → Sits routes r i n → (at_route < r) ⊎ ((at_route ≡ r) × (at_place ≤ i))
 
 position_in_route : ℕ → Option ℕ → Option PrintedPosition
 position_in_route k o = option_map (λ i. record { route = k; place = i }) o
@@ -84,7 +84,7 @@ position_found n k (route ∷ routes) s is = by (place_of n 1 route) refl (λ h.
           least = λ r j t. first (here.index) (here.least) r j t;
         }
       where
-        first : (index : ℕ) → ((j : ℕ) → slice_get route j ≡ Some n → index ≤ j) → (r j : ℕ) → HasStopAtIndex (route ∷ routes) r j n → (0 < r) ⊎ ((0 ≡ r) × (index ≤ j))
+        first : (index : ℕ) → ((j : ℕ) → slice_get route j ≡ Some n → index ≤ j) → (r j : ℕ) → Sits (route ∷ routes) r j n → (0 < r) ⊎ ((0 ≡ r) × (index ≤ j))
         first index least zero j t = inr (refl, least j (subst (λ (l : List ℕ). slice_get l j ≡ Some n) (sym (same_Some route t.0 t.1)) t.2))
         first index least (suc r) j t = inl (omega arith)
     by None e rest =
@@ -98,7 +98,7 @@ position_found n k (route ∷ routes) s is = by (place_of n 1 route) refl (λ h.
           least = λ r j t. following (later.at_route) (later.at_place) (later.least) r j t;
         }
       where
-        following : (d index : ℕ) → ((r j : ℕ) → HasStopAtIndex routes r j n → (d < r) ⊎ ((d ≡ r) × (index ≤ j))) → (r j : ℕ) → HasStopAtIndex (route ∷ routes) r j n
+        following : (d index : ℕ) → ((r j : ℕ) → Sits routes r j n → (d < r) ⊎ ((d ≡ r) × (index ≤ j))) → (r j : ℕ) → Sits (route ∷ routes) r j n
             → (suc d < r) ⊎ ((suc d ≡ r) × (index ≤ j))
         following d index least zero j t = absurd (no_place n 1 route e j (subst (λ (l : List ℕ). slice_get l j ≡ Some n) (sym (same_Some route t.0 t.1)) t.2))
         following d index least (suc r) j t = elim (least r j t) [
@@ -106,13 +106,13 @@ position_found n k (route ∷ routes) s is = by (place_of n 1 route) refl (λ h.
           | inr le ↦ (let same = le.0 in inr (omega arith, le.1))
         ]
 
-not_visited_from_test : (n k : ℕ) (routes : List (List ℕ)) → position_from n k routes ≡ None → (r i : ℕ) → HasStopAtIndex routes r i n → ⊥
+no_seat : (n k : ℕ) (routes : List (List ℕ)) → position_from n k routes ≡ None → (r i : ℕ) → Sits routes r i n → ⊥
 unfolding position_in_route
-not_visited_from_test n k [] is r i t = absurd (none_some (t.0) (t.1))
-not_visited_from_test n k (route ∷ routes) is r i t = by (place_of n 1 route) refl (λ h r i t. not_visited_from_test n (k + 1) routes h r i t) r i t
+no_seat n k [] is r i t = absurd (none_some (t.0) (t.1))
+no_seat n k (route ∷ routes) is r i t = by (place_of n 1 route) refl (λ h r i t. no_seat n (k + 1) routes h r i t) r i t
   where
-    by : (o : Option ℕ) → place_of n 1 route ≡ o → (position_from n (k + 1) routes ≡ None → (r i : ℕ) → HasStopAtIndex routes r i n → ⊥) → (r i : ℕ)
-        → HasStopAtIndex (route ∷ routes) r i n → ⊥
+    by : (o : Option ℕ) → place_of n 1 route ≡ o → (position_from n (k + 1) routes ≡ None → (r i : ℕ) → Sits routes r i n → ⊥) → (r i : ℕ)
+        → Sits (route ∷ routes) r i n → ⊥
     by (Some j) e rest r i t =
         none_some _ (sym (let h : option_or (position_in_route k (place_of n 1 route)) (position_from n (k + 1) routes) ≡ None = is in rw e at h))
     by None e rest zero i t = no_place n 1 route e i (subst (λ (l : List ℕ). slice_get l i ≡ Some n) (sym (same_Some route t.0 t.1)) t.2)
@@ -121,13 +121,13 @@ not_visited_from_test n k (route ∷ routes) is r i t = by (place_of n 1 route) 
 pub first_found : (routes : List (List ℕ)) (n : ℕ) (s : PrintedPosition) → first_position routes n ≡ Some s → IsFirstPosition n 1 routes s
 first_found routes n s is = position_found n 1 routes s is
 
-pub first_none : (routes : List (List ℕ)) (n : ℕ) → first_position routes n ≡ None → (r i : ℕ) → HasStopAtIndex routes r i n → ⊥
-first_none routes n is r i t = not_visited_from_test n 1 routes is r i t
+pub first_none : (routes : List (List ℕ)) (n : ℕ) → first_position routes n ≡ None → (r i : ℕ) → Sits routes r i n → ⊥
+first_none routes n is r i t = no_seat n 1 routes is r i t
 
 -- a stop at no place is in no route
 pub has_none : (routes : List (List ℕ)) (n : ℕ) → (IsVisited routes n → ⊥) → has_stop routes n ≡ false
 has_none routes n nowhere = by (has_stop routes n) refl
   where
     by : (b : Bool) → has_stop routes n ≡ b → has_stop routes n ≡ false
-    by true e = absurd (nowhere (visited_from_test routes n e))
+    by true e = absurd (nowhere (a_seat routes n e))
     by false e = e

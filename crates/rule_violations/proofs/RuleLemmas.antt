@@ -52,8 +52,8 @@ use Rattle.route_sched.specs.Route.{place}
 use Rattle.route_sched.specs.Schedule.{load, start}
 use Rattle.plan_audit.specs.Rules.{IsEarlier, IsRepeated, HasStopAt}
 use Rattle.plan_audit.specs.declared.rules.Rule.TheVariants.{UnknownStop, VisitedTwice, SplitPair, EarlyDelivery, Load, Late}
-use Rattle.plan_audit.proofs.RuleLemmas.{has_stop_at_index}
-use Rattle.plan_audit.proofs.PositionLemmas.{HasStopAtIndex}
+use Rattle.plan_audit.proofs.RuleLemmas.{standing}
+use Rattle.plan_audit.proofs.PositionLemmas.{Sits}
 use Rattle.plan_audit.proofs.TimeLemmas.{true_from}
 use Rattle.rule_violations.specs.Violations.{is_early_delivery, is_repeated, is_split, position_at, stop_violations, visit_violations}
 use Rattle.rule_violations.specs.Laws.{AreAll, IsViolation, HasNoRepeatedStop}
@@ -117,7 +117,7 @@ module _ (p : Instance) (routes : List (List ℕ)) where
       (λ r i n t h cost. to r i n t (first_position routes n) refl h) (λ r i n t b. from r i n (first_position routes n) refl (b 0)) (λ r i n b. (b 0).0)
       (λ r i n t. refl)
     where
-      to : (r i n : ℕ) → HasStopAtIndex routes r i n → (o : Option PrintedPosition) → first_position routes n ≡ o → is_repeated (position_at r i) o ≡ true
+      to : (r i n : ℕ) → Sits routes r i n → (o : Option PrintedPosition) → first_position routes n ≡ o → is_repeated (position_at r i) o ≡ true
           → IsRepeated p routes (suc r) (suc i) n
       to r i n t None e h = not_so h
       to r i n t (Some s) e h =
@@ -148,9 +148,9 @@ module _ (p : Instance) (routes : List (List ℕ)) where
               ]
 
       from : (r i n : ℕ) (o : Option PrintedPosition) → first_position routes n ≡ o → IsRepeated p routes (suc r) (suc i) n → is_repeated (position_at r i) o ≡ true
-      from r i n None e b = let st = has_stop_at_index routes b.1.0 b.1.1 n b.1.3 in absurd (first_none routes n e st.0 st.1 st.4)
+      from r i n None e b = let st = standing routes b.1.0 b.1.1 n b.1.3 in absurd (first_none routes n e st.0 st.1 st.4)
       from r i n (Some s) e b =
-          let st = has_stop_at_index routes b.1.0 b.1.1 n b.1.3 in
+          let st = standing routes b.1.0 b.1.1 n b.1.3 in
           let f = first_found routes n s e in
           either (not (eqb s.route (r + 1))) (not (eqb s.place (i + 1)))
           (elsewhere (f.at_route) (f.at_place) (f.route_is) (f.place_is) st.0 st.1 b.1.0 b.1.1 st.2 st.3 (f.least st.0 st.1 st.4) b.1.2)
@@ -163,7 +163,7 @@ module _ (p : Instance) (routes : List (List ℕ)) where
           elsewhere d j x y q' i' q k eq ek (inr le) (inr before) = let most = le.1 in let lt = before.1 in inr (apart s.place (i + 1) (λ e. omega arith))
 
   -- if no stop is repeated, the first position of a stop is its only one
-  only_position : HasNoRepeatedStop p routes → (n : ℕ) (s : PrintedPosition) (f : IsFirstPosition n 1 routes s) (r i : ℕ) → HasStopAtIndex routes r i n → (f.at_route ≡ r) × (f.at_place ≡ i)
+  only_position : HasNoRepeatedStop p routes → (n : ℕ) (s : PrintedPosition) (f : IsFirstPosition n 1 routes s) (r i : ℕ) → Sits routes r i n → (f.at_route ≡ r) × (f.at_place ≡ i)
   only_position once n s f r i t = elim (f.least r i t) [
     | inl lt ↦ absurd (once (suc r) (suc i) n (t, (suc (f.at_route), suc (f.at_place), inl (omega arith), f.at_index)))
     | inr le ↦ elim (eqb_tells (f.at_place) i) [
@@ -197,10 +197,10 @@ module _ (p : Instance) (routes : List (List ℕ)) where
           → is_split routes (position_at r i) other ≡ true
       from r i other b =
           let m = b.0 in
-          let st = has_stop_at_index routes b.2.0 b.2.1 m b.2.3 in
+          let st = standing routes b.2.0 b.2.1 m b.2.3 in
           ap (λ (o : Option ℕ). is_split routes (position_at r i) o) b.1 ∙ by m st.0 st.1 st.4 (λ same. b.2.2 (st.2 ∙ ap suc same)) (first_position routes m) refl
         where
-          by : (m q j : ℕ) → HasStopAtIndex routes q j m → q ≢ r → (o : Option PrintedPosition) → first_position routes m ≡ o
+          by : (m q j : ℕ) → Sits routes q j m → q ≢ r → (o : Option PrintedPosition) → first_position routes m ≡ o
               → option_map_or (λ s. not (eqb s.route (r + 1))) o false ≡ true
           by m q j t ne None e = absurd (first_none routes m e q j t)
           by m q j t ne (Some s) e =
@@ -228,17 +228,17 @@ module _ (p : Instance) (routes : List (List ℕ)) where
               let following = ltb-true (i + 1) s.place parts.1 in
               let is = f.route_is in let is' = f.place_is in
               let same : f.at_route ≡ r = omega arith in
-              (m, refl, (suc (f.at_place), omega arith, subst (λ q. HasStopAtIndex routes q (f.at_place) m) same (f.at_index)))
+              (m, refl, (suc (f.at_place), omega arith, subst (λ q. Sits routes q (f.at_place) m) same (f.at_index)))
 
       from : (r i : ℕ) (pickup : Option ℕ) → (m : ℕ) × (pickup ≡ Some m) × ((j : ℕ) × (suc i < j) × HasStopAt routes (suc r) j m)
           → is_early_delivery routes (position_at r i) pickup ≡ true
       from r i pickup b =
           let m = b.0 in
-          let st = has_stop_at_index routes (suc r) b.2.0 m b.2.2 in
+          let st = standing routes (suc r) b.2.0 m b.2.2 in
           let lt = b.2.1 in let eq = st.2 in let at = st.3 in
           ap (λ (o : Option ℕ). is_early_delivery routes (position_at r i) o) b.1 ∙ by m st.0 st.1 st.4 (omega arith) (omega arith) (first_position routes m) refl
         where
-          by : (m q j : ℕ) → HasStopAtIndex routes q j m → q ≡ r → i < j → (o : Option PrintedPosition) → first_position routes m ≡ o
+          by : (m q j : ℕ) → Sits routes q j m → q ≡ r → i < j → (o : Option PrintedPosition) → first_position routes m ≡ o
               → option_map_or (λ s. eqb s.route (r + 1) && nat_lt (i + 1) s.place) o false ≡ true
           by m q j t here lt None e = absurd (first_none routes m e q j t)
           by m q j t here lt (Some s) e =
@@ -249,7 +249,7 @@ module _ (p : Instance) (routes : List (List ℕ)) where
               both (eqb s.route (r + 1)) (nat_lt (i + 1) s.place) (same_test s.route (r + 1) (omega arith)) (lt-ltb (i + 1) s.place (omega arith))
 
   -- the route at index r, from which the excess is computed, is that of the position
-  on_route : (r i n : ℕ) (t : HasStopAtIndex routes r i n) → unwrap_or (slice_get routes r) [] ≡ t.0
+  on_route : (r i n : ℕ) (t : Sits routes r i n) → unwrap_or (slice_get routes r) [] ≡ t.0
   on_route r i n t = ap (λ o. unwrap_or o []) t.1
 
   pub load_all : AreAll (IsViolation p routes Load) (visit_violations p routes Load)

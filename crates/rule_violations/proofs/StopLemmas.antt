@@ -15,7 +15,7 @@ use Rattle.plan_types.specs.declared.requests.Request.TheVariants.{Single, Pair}
 use Rattle.route_sched.specs.Cost.{has_stop}
 use Rattle.plan_audit.specs.Rules.{IsVisited}
 use Rattle.plan_audit.proofs.FirstLemmas.{none_some}
-use Rattle.plan_audit.proofs.ServedLemmas.{IsNowhere, visited_from_test, not_visited_from_test}
+use Rattle.plan_audit.proofs.ServedLemmas.{IsNowhere, a_seat, no_seat}
 use Rattle.rule_violations.specs.Violations.{is_missing, missing_from, missing_stops}
 use Rattle.rule_violations.specs.Laws.{IsMissingStop}
 use Rattle.rule_violations.proofs.ListLemmas.{in_cases, in_head, in_nothing, in_tail}
@@ -190,7 +190,7 @@ module _ (found : NamedRequestsAreFound) (by_name : RequestsAreStoredByName) (be
   reported n h =
       let parts = and_parts (is_some (stop_at p n)) (not (has_stop routes n)) h in
       let t = stop_of n p.requests parts.0 in
-      by t.0 t.1 t.2 (not_visited_from_test routes n (not-true _ parts.1))
+      by t.0 t.1 t.2 (no_seat routes n (not-true _ parts.1))
     where
       by : (r : Request) → request_with p n ≡ Some r → IsSome (stop_in n r) → (IsVisited routes n → ⊥) → IsMissingStop p routes n
       by (Single s) is some nowhere =
@@ -199,14 +199,14 @@ module _ (found : NamedRequestsAreFound) (by_name : RequestsAreStoredByName) (be
         where
           other : (m : ℕ) → IsOfPair n m a b → (h : Bool) → has_stop routes m ≡ h → IsMissingStop p routes n
           other m pair false e = reported_by_request n (Pair a b) is some (elim (pair.ends) [
-            | inl t ↦ (nowhere_at t.0 nowhere, (nowhere_at t.1 (not_visited_from_test routes m e), tt))
-            | inr t ↦ (nowhere_at t.1 (not_visited_from_test routes m e), (nowhere_at t.0 nowhere, tt))
+            | inl t ↦ (nowhere_at t.0 nowhere, (nowhere_at t.1 (no_seat routes m e), tt))
+            | inr t ↦ (nowhere_at t.1 (no_seat routes m e), (nowhere_at t.0 nowhere, tt))
           ])
             where
               nowhere_at : {x y : ℕ} → x ≡ y → (IsVisited routes y → ⊥) → IsVisited routes x → ⊥
               nowhere_at same none t = none (subst (IsVisited routes) same t)
           other m pair true e =
-              let t = visited_from_test routes m e in
+              let t = a_seat routes m e in
               let at = found p m (request_name (Pair a b)) (Pair a b) valid (by_name p n (Pair a b) valid is) (pair.there) in
               inl (t.0, t.1, (m, t.2, at.partner ∙ pair.partner, nowhere))
 

@@ -11,15 +11,15 @@ use Rattle.plan_audit.proofs.audits.audit_routes.Goals as goal
 use Rattle.plan_audit.proofs.audits.audit_routes.Goals.{After-first_unserved, In-Ok}
 
 -- the request found is the first that must be served and is not
-unserved_is : (c : After-first_unserved) → c.first_unserved.result ≡ first_unserved c.args.routes.now c.in_ok-scan.scan.problem.now.requests
-unserved_is c = c.first_unserved.ensures ∙ ap (λ (l : List (List ℕ)). first_unserved l c.in_ok-scan.scan.problem.now.requests) c.in_ok-scan.ensures.made.1
+asked : (c : After-first_unserved) → c.first_unserved.result ≡ first_unserved c.args.routes.now c.in_ok-scan.scan.problem.now.requests
+asked c = c.first_unserved.ensures ∙ ap (λ (l : List (List ℕ)). first_unserved l c.in_ok-scan.scan.problem.now.requests) c.in_ok-scan.ensures.made.1
 
 -- the cost of the routes if rules 1 to 8 hold
 judged : (c : In-Ok) (printed_cost : ℕ) → IsVerdictWithin 1 8 c.args.problem.now (printed c.args.routes.now printed_cost) (Pass c.in-Ok.cost)
 judged c printed_cost =
     let s = printed c.args.routes.now printed_cost in
     subst (λ (p : Instance). IsVerdictWithin 1 8 p s (Pass c.in-Ok.cost)) c.in_ok-scan.ensures.made.0
-    (c.in-Ok.ensures.judged s (sym c.in_ok-scan.ensures.made.1) (unserved_is (goal.at.In-Ok c).After-first_unserved))
+    (c.in-Ok.ensures.judged s (sym c.in_ok-scan.ensures.made.1) (asked (goal.at.In-Ok c).After-first_unserved))
 
 pub returns-in-Err : goal.returns-in-Err
 returns-in-Err c = λ printed_cost.
@@ -28,7 +28,7 @@ returns-in-Err c = λ printed_cost.
     broken_verdict p s 1 10 c.in-Err.broken
     (broken_wider p s 1 8 10 c.in-Err.broken (omega arith)
     (subst (λ (q : Instance). IsBrokenWithin 1 8 q s c.in-Err.broken) c.in_ok-scan.ensures.made.0
-    (c.in-Err.ensures.judged s (sym c.in_ok-scan.ensures.made.1) (unserved_is (goal.at.returns-in-Err c).After-first_unserved))))
+    (c.in-Err.ensures.judged s (sym c.in_ok-scan.ensures.made.1) (asked (goal.at.returns-in-Err c).After-first_unserved))))
 
 -- the route beyond the fleet, for the given problem
 beyond : (fleet : ℕ) (p : Instance) (routes : List (List ℕ)) (o : Option ℕ) → fleet ≡ p.fleet → o ≡ first_route_beyond fleet 0 routes

@@ -6,7 +6,7 @@ use Rattle.plan_audit.proofs.audits.check_all_routes.Goals as goal
 
 pub returns-in-Some : goal.returns-in-Some
 returns-in-Some c = record {
-  judged = λ s is unserved_is. broken_wider c.args.scan.now.problem.now s 1 5 8 c.in-Some.broken (omega arith) (c.in-Some.ensures.least s is unserved_is);
+  judged = λ s is asked. broken_wider c.args.scan.now.problem.now s 1 5 8 c.in-Some.broken (omega arith) (c.in-Some.ensures.least s is asked);
 }
 
 pub check_loads_and_times-requires : goal.check_loads_and_times-requires
@@ -14,6 +14,6 @@ check_loads_and_times-requires c = c.in_default.ensures.plan
 
 pub returns : goal.returns
 returns c = record {
-  judged = λ s is unserved_is. judged_after c.args.scan.now.problem.now s 1 5 8 c.check_loads_and_times.result (omega arith) (c.in_default.ensures.least s is unserved_is)
+  judged = λ s is asked. judged_after c.args.scan.now.problem.now s 1 5 8 c.check_loads_and_times.result (omega arith) (c.in_default.ensures.least s is asked)
       (c.check_loads_and_times.ensures.judged s is);
 }
