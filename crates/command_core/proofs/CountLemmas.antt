@@ -62,16 +62,16 @@ distinct_from (x ∷ xs) few =
     by true e = absurd (let h = had_often xs x e in let g = few x in let k = one_here x x refl in omega arith)
 
 -- If a property holds for each number that occurs in a list, it holds for all items
-pub all_standing : (P : ℕ → Type 0) (xs : List ℕ) → ((n : ℕ) → 1 ≤ times n xs → P n) → AllByRecursion P xs
-all_standing P [] each = tt
-all_standing P (x ∷ xs) each = (each x (let e = one_here x x refl in omega arith), all_standing P xs (λ n h. each n (omega arith)))
+pub all_occurring : (P : ℕ → Type 0) (xs : List ℕ) → ((n : ℕ) → 1 ≤ times n xs → P n) → AllByRecursion P xs
+all_occurring P [] each = tt
+all_occurring P (x ∷ xs) each = (each x (let e = one_here x x refl in omega arith), all_occurring P xs (λ n h. each n (omega arith)))
 
 -- If a property holds for all items of a list, it holds for each number that occurs in it
-pub standing : (P : ℕ → Type 0) (xs : List ℕ) → AllByRecursion P xs → (n : ℕ) → 1 ≤ times n xs → P n
-standing P [] all n some = absurd (omega arith)
-standing P (x ∷ xs) all n some = elim (eqb_tells n x) [
+pub holds_for : (P : ℕ → Type 0) (xs : List ℕ) → AllByRecursion P xs → (n : ℕ) → 1 ≤ times n xs → P n
+holds_for P [] all n some = absurd (omega arith)
+holds_for P (x ∷ xs) all n some = elim (eqb_tells n x) [
   | inl t ↦ subst P (sym t.1) all.0
-  | inr t ↦ (let e = none_here n x t.0 in standing P xs all.1 n (omega arith))
+  | inr t ↦ (let e = none_here n x t.0 in holds_for P xs all.1 n (omega arith))
 ]
 
 -- If a property holds for all items of two joined lists, it holds for all items of each list
@@ -92,11 +92,11 @@ all_joined P [] all = tt
 all_joined P (l ∷ lists) all = all_join P l (concat lists) all.0 (all_joined P lists all.1)
 
 -- A number occurs in a prefix of a list no more often than in the list
-pub times_front : (n : ℕ) (xs front : List ℕ) → starts_with nat_eq xs front ≡ true → times n front ≤ times n xs
-times_front n xs [] begins = omega arith
-times_front n [] (m ∷ front) begins = absurd (let h : false ≡ true = begins in cc)
-times_front n (x ∷ xs) (m ∷ front) begins =
-    let both = and_parts (nat_eq m x) (starts_with nat_eq xs front) begins in
-    let h = times_front n xs front both.1 in
+pub times_prefix : (n : ℕ) (xs prefix : List ℕ) → starts_with nat_eq xs prefix ≡ true → times n prefix ≤ times n xs
+times_prefix n xs [] begins = omega arith
+times_prefix n [] (m ∷ prefix) begins = absurd (let h : false ≡ true = begins in cc)
+times_prefix n (x ∷ xs) (m ∷ prefix) begins =
+    let both = and_parts (nat_eq m x) (starts_with nat_eq xs prefix) begins in
+    let h = times_prefix n xs prefix both.1 in
     let e : times n (m ∷ []) ≡ times n (x ∷ []) = ap (λ k. times n (k ∷ [])) (eqb-true m x both.0) in
     omega arith

@@ -57,9 +57,9 @@ refused : {X : Type 0} (r : Refusal) → Some r ≡ None → X
 refused r h = absurd (let g = h in cc)
 
 -- If a sequence of tests refuses nothing, its first test passed, and so did the later tests
-asked : (b : Bool) (r : Refusal) (o : Option Refusal) → cond (not b) (Some r) o ≡ None → (b ≡ true) × (o ≡ None)
-asked true r o none = (refl, none)
-asked false r o none = refused r none
+accepted_so : (b : Bool) (r : Refusal) (o : Option Refusal) → cond (not b) (Some r) o ≡ None → (b ≡ true) × (o ≡ None)
+accepted_so true r o none = (refl, none)
+accepted_so false r o none = refused r none
 
 requested_last : (b : Bool) (r : Refusal) → cond b None (Some r) ≡ None → b ≡ true
 requested_last true r none = refl
@@ -113,11 +113,11 @@ module _ (laws : LowerLaws) (j : JobValue) (is : IsJob j) where
       let fresh = laws.fresh in
       let agree = same_at_known fresh p r (is.problem) next (laws.put_others) (laws.below) in
       let good = passes_same (laws.feasibility) (laws.local) (laws.plans) p (with_request p r) j.pins j.plan agree (is.plan) in
-      let live = numbers_known p j.pins (pins_known (laws.pins) p j.pins j.plan (is.plan)) in
+      let known = numbers_known p j.pins (pins_known (laws.pins) p j.pins j.plan (is.plan)) in
       record {
         problem = new_problem fresh p r (is.problem) next (laws.put) request;
         fleet = is.fleet;
-        pins = sym (all_feasible_same p (with_request p r) (IsKnownStop p) agree (laws.feasibility) j.pins live) ∙ is.pins;
+        pins = sym (all_feasible_same p (with_request p r) (IsKnownStop p) agree (laws.feasibility) j.pins known) ∙ is.pins;
         plan = good;
         work = good;
         deviation = is.deviation;
@@ -130,14 +130,14 @@ module _ (laws : LowerLaws) (j : JobValue) (is : IsJob j) where
       let p = j.problem in
       let take = laws.take in
       let valid = is.problem in
-      let live = numbers_known p j.plan (routes_known (laws.local) (laws.plans) p j.pins j.plan (is.plan)) in
-      let live_pins = numbers_known p j.pins (pins_known (laws.pins) p j.pins j.plan (is.plan)) in
+      let known = numbers_known p j.plan (routes_known (laws.local) (laws.plans) p j.pins j.plan (is.plan)) in
+      let known_pins = numbers_known p j.pins (pins_known (laws.pins) p j.pins j.plan (is.plan)) in
       let others = pins_others p name valid (laws.named) j.pins r named free in
-      let good = withdrawn_passes p name valid (laws.feasibility) (laws.take_others) j.pins j.plan (is.plan) (is.fleet) live live_pins others (is.pins) in
+      let good = withdrawn_passes p name valid (laws.feasibility) (laws.take_others) j.pins j.plan (is.plan) (is.fleet) known known_pins others (is.pins) in
       record {
         problem = take p name valid;
         fleet = is.fleet;
-        pins = pins_still_feasible p name valid (laws.feasibility) (laws.take_others) j.pins j.plan (is.plan) (is.fleet) live live_pins others (is.pins);
+        pins = pins_still_feasible p name valid (laws.feasibility) (laws.take_others) j.pins j.plan (is.plan) (is.fleet) known known_pins others (is.pins);
         plan = good;
         work = good;
         deviation = is.deviation;
@@ -181,7 +181,7 @@ module _ (laws : LowerLaws) (j : JobValue) (is : IsJob j) where
   job_keeps_facts : (c : Command) → IsCommand c → job_refusal j c ≡ None → IsJob (job_after j c)
   job_keeps_facts (Load p seed) command none = loaded_job p seed command.0 command.1
   job_keeps_facts (Add q a b) command none =
-      let t = asked _ _ _ none in
+      let t = accepted_so _ _ _ none in
       let u = leb-true (j.problem.next_number + 2) 40001 (requested_last _ _ t.1) in
       let goods = and_parts (is_demand q) (is_spot a && is_spot b) t.0 in
       let spots = and_parts (is_spot a) (is_spot b) goods.1 in
@@ -189,7 +189,7 @@ module _ (laws : LowerLaws) (j : JobValue) (is : IsJob j) where
       let valid = is.problem in
       added_job (pair_at n q a b) (omega arith, (omega arith, tt)) (pair_is_request n q a b (valid.next_number_min) (omega arith) goods.0 spots.0 spots.1)
   job_keeps_facts (Add1 q s) command none =
-      let t = asked _ _ _ none in
+      let t = accepted_so _ _ _ none in
       let u = leb-true (j.problem.next_number + 1) 40001 (requested_last _ _ t.1) in
       let goods = and_parts (is_demand q) (is_spot s) t.0 in
       let n = j.problem.next_number in
@@ -197,7 +197,7 @@ module _ (laws : LowerLaws) (j : JobValue) (is : IsJob j) where
       added_job (single_at n q s) (omega arith, tt) (single_is_request n q s (valid.next_number_min) (omega arith) goods.0 goods.1)
   job_keeps_facts (Withdraw name) command none = let t = found name none in withdrawn_job name t.0 t.1 t.2
   job_keeps_facts (Pin v k) command none =
-      let t = asked _ _ _ none in
+      let t = accepted_so _ _ _ none in
       let u = requested_last _ _ t.1 in
       let vehicle = and_parts (is_vehicle j.problem v) (nat_le k (length (route_of j.plan v))) t.0 in
       let from = leb-true 1 v (and_parts (nat_le 1 v) (nat_le v j.problem.fleet) vehicle.0).0 in
@@ -206,7 +206,7 @@ module _ (laws : LowerLaws) (j : JobValue) (is : IsJob j) where
   job_keeps_facts Build command none =
       let good = placed_all_passes j.problem j.pins (unplanned_names j.problem j.plan) j.plan (is.plan) in
       with_plans j is _ _ good good j.steps (is.steps)
-  job_keeps_facts (Search count) command none = let t = asked _ _ _ none in searched_job count (leb-true (j.steps + count) (2 ^ 60) (requested_last _ _ t.1))
+  job_keeps_facts (Search count) command none = let t = accepted_so _ _ _ none in searched_job count (leb-true (j.steps + count) (2 ^ 60) (requested_last _ _ t.1))
   job_keeps_facts (Deviation d) command none = record {
     problem = is.problem;
     fleet = is.fleet;
@@ -217,9 +217,9 @@ module _ (laws : LowerLaws) (j : JobValue) (is : IsJob j) where
     seed = is.seed;
     steps = is.steps;
   }
-  job_keeps_facts (Anneal count) command none = let t = asked _ _ _ none in annealed_job count (leb-true (j.steps + count) (2 ^ 60) (requested_last _ _ t.1))
-  job_keeps_facts (Reduce count) command none = let t = asked _ _ _ none in reduced_job count (leb-true (j.steps + count) (2 ^ 60) (requested_last _ _ t.1))
-  job_keeps_facts (Adopt plan) command none = let t = asked _ _ _ none in with_plans j is plan.routes plan.routes t.0 t.0 j.steps (is.steps)
+  job_keeps_facts (Anneal count) command none = let t = accepted_so _ _ _ none in annealed_job count (leb-true (j.steps + count) (2 ^ 60) (requested_last _ _ t.1))
+  job_keeps_facts (Reduce count) command none = let t = accepted_so _ _ _ none in reduced_job count (leb-true (j.steps + count) (2 ^ 60) (requested_last _ _ t.1))
+  job_keeps_facts (Adopt plan) command none = let t = accepted_so _ _ _ none in with_plans j is plan.routes plan.routes t.0 t.0 j.steps (is.steps)
   job_keeps_facts c command none = is
 
 pub commands_keep_invariants : LowerLaws → CommandsKeepInvariants

@@ -21,9 +21,9 @@ unfolding IsDistinct
 no_stops_once p = record { live = All-nil (IsKnownStop p); distinct = tt }
 
 -- The first stops of a route of a passing plan are current and distinct
-pub front_of_route_once : PassingIsLocal → PlansAreDisjointRoutes → (p : Instance) (pins routes : List (List ℕ)) → passes p pins routes ≡ true → (v k : ℕ) (front route : List ℕ)
-    → front ≡ take k route → route ≡ route_of routes v → AreDistinctStops p front
-front_of_route_once local plans p pins routes good v k front route is_front is_route =
+pub prefix_of_route_once : PassingIsLocal → PlansAreDisjointRoutes → (p : Instance) (pins routes : List (List ℕ)) → passes p pins routes ≡ true → (v k : ℕ) (prefix route : List ℕ)
+    → prefix ≡ take k route → route ≡ route_of routes v → AreDistinctStops p prefix
+prefix_of_route_once local plans p pins routes good v k prefix route is_prefix is_route =
     let all = recursion_from_All (AreDistinctStops p) routes (((plans p routes).0 (((local p pins routes).0 good).plan)).0) in
     let whole = of_vehicle_has (AreDistinctStops p) (no_stops_once p) routes all v in
-    subst (λ l. AreDistinctStops p l) (sym (is_front ∙ ap (take k) is_route)) (front_once p (route_of routes v) k whole)
+    subst (λ l. AreDistinctStops p l) (sym (is_prefix ∙ ap (take k) is_route)) (front_once p (route_of routes v) k whole)

@@ -39,22 +39,22 @@ assigned_numbers_are_new j (c ∷ cs) none =
     given_first j c (assigned_by_all (job_after j c) cs) (falls (is_load c) parts.0) (assigned_numbers_are_new (job_after j c) cs parts.1)
 
 -- If nothing is refused, the first test passed
-asked_first : (b : Bool) (o : Option Refusal) → cond (not b) (Some Range) o ≡ None → b ≡ true
-asked_first true o none = refl
-asked_first false o none = absurd (let h : Some Range ≡ None = none in cc)
+first_holds : (b : Bool) (o : Option Refusal) → cond (not b) (Some Range) o ≡ None → b ≡ true
+first_holds true o none = refl
+first_holds false o none = absurd (let h : Some Range ≡ None = none in cc)
 
 requested_alone : (b : Bool) → cond b None (Some Range) ≡ None → b ≡ true
 requested_alone true none = refl
 requested_alone false none = absurd (let h : Some Range ≡ None = none in cc)
 
 pub accepted_fit_records : AcceptedFitRecords
-accepted_fit_records (Loaded j) (Add q a b) none recorded = asked_first _ _ none
-accepted_fit_records (Loaded j) (Add1 q s) none recorded = asked_first _ _ none
+accepted_fit_records (Loaded j) (Add q a b) none recorded = first_holds _ _ none
+accepted_fit_records (Loaded j) (Add1 q s) none recorded = first_holds _ _ none
 accepted_fit_records (Loaded j) (Withdraw name) none recorded = refl
 accepted_fit_records (Loaded j) (Pin v k) none recorded = refl
 accepted_fit_records (Loaded j) (Unpin v) none recorded = refl
 accepted_fit_records (Loaded j) Build none recorded = refl
-accepted_fit_records (Loaded j) (Search count) none recorded = asked_first _ _ none
+accepted_fit_records (Loaded j) (Search count) none recorded = first_holds _ _ none
 accepted_fit_records (Loaded j) (Deviation d) none recorded = requested_alone _ none
 accepted_fit_records (Loaded j) c none recorded = absurd (let h : false ≡ true = recorded in cc)
 accepted_fit_records Empty (Load p seed) none recorded = absurd (let h : false ≡ true = recorded in cc)

@@ -49,19 +49,19 @@ set_none (route ∷ routes) (pin ∷ pins) (suc i) kept =
     let both = and_parts (starts_with nat_eq route pin) (begin_with_pins routes pins) kept in and_from (starts_with nat_eq route pin) _ both.0 (set_none routes pins i both.1)
 
 -- After a pin is set to the first stops of its vehicle's route, all routes still begin with their pins
-set_front : (routes pins : List (List ℕ)) (i k : ℕ) → begin_with_pins routes pins ≡ true → begin_with_pins routes (set pins i (take k (route_of routes (suc i)))) ≡ true
-set_front routes [] i k kept = kept
-set_front [] (pin ∷ pins) zero k kept = and_from (eqb (length (take k [])) 0) _ (empty k) (and_parts (eqb (length pin) 0) (begin_with_pins [] pins) kept).1
+set_prefix : (routes pins : List (List ℕ)) (i k : ℕ) → begin_with_pins routes pins ≡ true → begin_with_pins routes (set pins i (take k (route_of routes (suc i)))) ≡ true
+set_prefix routes [] i k kept = kept
+set_prefix [] (pin ∷ pins) zero k kept = and_from (eqb (length (take k [])) 0) _ (empty k) (and_parts (eqb (length pin) 0) (begin_with_pins [] pins) kept).1
   where
     empty : (k : ℕ) → eqb (length (take {A = ℕ} k [])) 0 ≡ true
     empty zero = refl
     empty (suc k) = refl
-set_front [] (pin ∷ pins) (suc i) k kept =
-    let both = and_parts (eqb (length pin) 0) (begin_with_pins [] pins) kept in and_from (eqb (length pin) 0) _ both.0 (set_front [] pins i k both.1)
-set_front (route ∷ routes) (pin ∷ pins) zero k kept =
+set_prefix [] (pin ∷ pins) (suc i) k kept =
+    let both = and_parts (eqb (length pin) 0) (begin_with_pins [] pins) kept in and_from (eqb (length pin) 0) _ both.0 (set_prefix [] pins i k both.1)
+set_prefix (route ∷ routes) (pin ∷ pins) zero k kept =
     and_from (starts_with nat_eq route (take k route)) _ (begins route k) (and_parts (starts_with nat_eq route pin) (begin_with_pins routes pins) kept).1
-set_front (route ∷ routes) (pin ∷ pins) (suc i) k kept =
-    let both = and_parts (starts_with nat_eq route pin) (begin_with_pins routes pins) kept in and_from (starts_with nat_eq route pin) _ both.0 (set_front routes pins i k both.1)
+set_prefix (route ∷ routes) (pin ∷ pins) (suc i) k kept =
+    let both = and_parts (starts_with nat_eq route pin) (begin_with_pins routes pins) kept in and_from (starts_with nat_eq route pin) _ both.0 (set_prefix routes pins i k both.1)
 
 -- Replacing an item by one that passes a test keeps a list in which all items pass
 pub set_all : {X : Type 0} (test : X → Bool) (xs : List X) (i : ℕ) (x : X) → list_all test xs ≡ true → test x ≡ true → list_all test (set xs i x) ≡ true
@@ -86,6 +86,6 @@ module _ (p : Instance) (pins routes : List (List ℕ)) (good : passes p pins ro
   pinned_passes (suc i) k from =
       let parts = parts_of p pins routes good in
       let e : suc i - 1 ≡ i = omega arith in
-      let kept : begin_with_pins routes (set pins (suc i - 1) (take k (route_of routes (suc i)))) ≡ true = rw e (set_front routes pins i k (parts.pinned)) in
+      let kept : begin_with_pins routes (set pins (suc i - 1) (take k (route_of routes (suc i)))) ≡ true = rw e (set_prefix routes pins i k (parts.pinned)) in
       from_parts p (with_route pins (suc i) (take k (route_of routes (suc i)))) routes
       (record { known = parts.known; distinct = parts.distinct; fleet = parts.fleet; feasible = parts.feasible; pinned = kept })

@@ -23,8 +23,8 @@ all_of_joined f [] = refl
 all_of_joined f (xs ∷ lists) = list_all-append f xs (concat lists) ∙ ap (λ b. list_all f xs && b) (all_of_joined f lists)
 
 -- Routes whose stops pass the test have current stops, each once
-pub each_live_once : PlansAreDisjointRoutes → (p : Instance) (routes : List (List ℕ)) → are_distinct_stops p (concat routes) ≡ true → All (AreDistinctStops p) routes
-each_live_once local p routes test =
+pub each_known_once : PlansAreDisjointRoutes → (p : Instance) (routes : List (List ℕ)) → are_distinct_stops p (concat routes) ≡ true → All (AreDistinctStops p) routes
+each_known_once local p routes test =
     let stops = concat routes in
     let both = and_parts (list_all (λ n. is_some (stop_at p n)) stops) (are_distinct stops) test in
     ((local p routes).0 (record {

@@ -12,6 +12,14 @@ use Rattle.command_core.specs.Effects.{reduced}
 use Rattle.command_types.specs.Job.{IsJob, JobValue}
 use Rattle.command_core.specs.KeptSearch.{with_search_plans}
 
+-- The attempts with the problem, the pins and the seed of a job
+pub in_job : (j : JobValue) (p : Instance) (pins : List (List ℕ)) (seed count : ℕ) (tried : Reduction) → p ≡ j.problem → pins ≡ j.pins → seed ≡ j.seed
+    → HasAttempts (all_attempts p pins seed count j.steps j.plan) tried → HasAttempts (all_attempts j.problem j.pins j.seed count j.steps j.plan) tried
+in_job j p pins seed count tried same_problem same_pins same_seed has =
+    subst (λ k. HasAttempts (all_attempts j.problem j.pins k count j.steps j.plan) tried) same_seed
+    (subst (λ l. HasAttempts (all_attempts j.problem l seed count j.steps j.plan) tried) same_pins
+    (subst (λ q. HasAttempts (all_attempts q pins seed count j.steps j.plan) tried) same_problem has))
+
 module _ (j : JobValue) (count : ℕ) (tried : Reduction) (has : HasAttempts (all_attempts j.problem j.pins j.seed count j.steps j.plan) tried) where
   abbrev tries : Attempts
   tries = all_attempts j.problem j.pins j.seed count j.steps j.plan

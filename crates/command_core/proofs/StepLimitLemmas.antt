@@ -22,6 +22,6 @@ fit most steps count accepted = by (nat_le 1 count && nat_le count most) (nat_le
         let last : steps + count ≤ 2 ^ 60 = leb-true (steps + count) (2 ^ 60) f in
         (omega arith, last)
 
-pub steps_fit : (j : JobValue) (asked : StepCount) → job_refusal j (command_for asked) ≡ None → (j.steps < 2 ^ 60) × (j.steps + steps_of (command_for asked) ≤ 2 ^ 60)
+pub steps_fit : (j : JobValue) (steps : StepCount) → job_refusal j (command_for steps) ≡ None → (j.steps < 2 ^ 60) × (j.steps + steps_of (command_for steps) ≤ 2 ^ 60)
 steps_fit j (Search count) accepted = fit 256 j.steps count accepted
 steps_fit j (Anneal count) accepted = fit 65536 j.steps count accepted

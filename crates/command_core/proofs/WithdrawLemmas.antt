@@ -20,7 +20,7 @@ use Rattle.command_core.specs.Effects.{serves, route_without, remaining_route, r
 use Rattle.move_ops.proofs.FitLemmas.{often_had}
 use Rattle.move_ops.proofs.PlanRemovalLemmas.{times_kept}
 use Rattle.move_ops.proofs.OccurrenceLemmas.{none_some, some_same, times, times-append, once_few, once_from}
-use Rattle.command_core.proofs.CountLemmas.{standing, at_most_once, distinct_from, all_standing, all_split, all_joined, times_front}
+use Rattle.command_core.proofs.CountLemmas.{holds_for, at_most_once, distinct_from, all_occurring, all_split, all_joined, times_prefix}
 use Rattle.command_types.proofs.PassLemmas.{parts_of, from_parts, Agree, feasible_same, all_feasible_same, known_same}
 
 -- If one of the lists has a stop of the request, the request is planned
@@ -93,11 +93,11 @@ module _ (p : Instance) (name : ℕ) (valid : IsInstance p) where
 
   -- If a request is not pinned, none of its stops is in a pin
   pub pins_others : RequestsAreStoredByName → (pins : List (List ℕ)) (r : Request) → request_named p name ≡ Some r → is_planned pins r ≡ false → AllByRecursion (AllByRecursion IsOther) pins
-  pins_others law pins r named free = all_split IsOther pins (all_standing IsOther (concat pins) (λ n stands. by n stands (is_of_named p (name ∷ []) n) refl))
+  pins_others law pins r named free = all_split IsOther pins (all_occurring IsOther (concat pins) (λ n occurs. by n occurs (is_of_named p (name ∷ []) n) refl))
     where
       by : (n : ℕ) → 1 ≤ times n (concat pins) → (b : Bool) → is_of_named p (name ∷ []) n ≡ b → b ≡ false
-      by n stands false e = refl
-      by n stands true e = absurd (let h : true ≡ false = sym (planned_by pins r n (name_found law r named n (named_of n e)) (often_had (concat pins) n stands)) ∙ free in cc)
+      by n occurs false e = refl
+      by n occurs true e = absurd (let h : true ≡ false = sym (planned_by pins r n (name_found law r named n (named_of n e)) (often_had (concat pins) n occurs)) ∙ free in cc)
 
   -- If the vehicle does not serve the request, all stops of its route belong to other requests
   others_all : (route : List ℕ) → serves p name route ≡ false → AllByRecursion IsOther route
@@ -109,21 +109,21 @@ module _ (p : Instance) (name : ℕ) (valid : IsInstance p) where
       by true e none rest = absurd (let h : true ≡ false = none in cc)
 
   kept_all : (ns : List ℕ) → AllByRecursion (IsKnownStop p) ns → AllByRecursion IsOther ns → AllByRecursion IsKept ns
-  kept_all [] live others = tt
-  kept_all (n ∷ ns) live others = ((live.0, others.0), kept_all ns live.1 others.1)
+  kept_all [] known others = tt
+  kept_all (n ∷ ns) known others = ((known.0, others.0), kept_all ns known.1 others.1)
 
   kept_lists : (lists : List (List ℕ)) → AllByRecursion (AllByRecursion (IsKnownStop p)) lists → AllByRecursion (AllByRecursion IsOther) lists → AllByRecursion (AllByRecursion IsKept) lists
-  kept_lists [] live others = tt
-  kept_lists (l ∷ lists) live others = (kept_all l live.0 others.0, kept_lists lists live.1 others.1)
+  kept_lists [] known others = tt
+  kept_lists (l ∷ lists) known others = (kept_all l known.0 others.0, kept_lists lists known.1 others.1)
 
   -- All stops that remain in the route are current stops of other requests
   pub kept_without : (route : List ℕ) → AllByRecursion (IsKnownStop p) route → AllByRecursion IsKept (route_without p name route)
-  kept_without [] live = tt
-  kept_without (n ∷ route) live = by (is_of_named p (name ∷ []) n) refl (kept_without route live.1)
+  kept_without [] known = tt
+  kept_without (n ∷ route) known = by (is_of_named p (name ∷ []) n) refl (kept_without route known.1)
     where
       by : (b : Bool) → is_of_named p (name ∷ []) n ≡ b → AllByRecursion IsKept (route_without p name route)
           → AllByRecursion IsKept (cond (not b) (n ∷ route_without p name route) (route_without p name route))
-      by false e rest = ((live.0, e), rest)
+      by false e rest = ((known.0, e), rest)
       by true e rest = rest
 
   begins_without : (route pin : List ℕ) → starts_with nat_eq route pin ≡ true → AllByRecursion IsOther pin → starts_with nat_eq (route_without p name route) pin ≡ true
@@ -152,20 +152,20 @@ module _ (p : Instance) (name : ℕ) (valid : IsInstance p) where
     left : (pin route : List ℕ) → AllByRecursion (IsKnownStop p) route → feasible_alone p route ≡ true → starts_with nat_eq route pin ≡ true
         → AllByRecursion IsKept pin → AllByRecursion IsOther pin → feasible_alone p pin ≡ true
         → IsLeft pin route (remaining_route p name pin route)
-    left pin route live feasible begins pin_kept pin_other pin_feasible = by (serves p name route) (feasible_alone (without_request p name) (route_without p name route)) refl refl
+    left pin route known feasible begins pin_kept pin_other pin_feasible = by (serves p name route) (feasible_alone (without_request p name) (route_without p name route)) refl refl
       where
         by : (a b : Bool) → serves p name route ≡ a → feasible_alone (without_request p name) (route_without p name route) ≡ b
             → IsLeft pin route (cond a (cond b (route_without p name route) pin) route)
         by false b e f =
-            let kept = kept_all route live (others_all route e) in
+            let kept = kept_all route known (others_all route e) in
             record { kept = kept; fewer = λ n. omega arith; feasible = same_feasible route kept feasible; begins = begins }
         by true true e f = record {
-          kept = kept_without route live;
+          kept = kept_without route known;
           fewer = λ n. times_kept n (λ m. not (is_of_named p (name ∷ []) m)) route;
           feasible = f;
           begins = begins_without route pin begins pin_other;
         }
-        by true false e f = record { kept = pin_kept; fewer = λ n. times_front n route pin begins; feasible = same_feasible pin pin_kept pin_feasible; begins = begins_itself pin }
+        by true false e f = record { kept = pin_kept; fewer = λ n. times_prefix n route pin begins; feasible = same_feasible pin pin_kept pin_feasible; begins = begins_itself pin }
 
   -- The facts about the remaining routes of all vehicles
   pub record AreLeft (pins routes new : List (List ℕ)) : Type 0 where
@@ -180,16 +180,16 @@ module _ (p : Instance) (name : ℕ) (valid : IsInstance p) where
         → list_all (feasible_alone p) routes ≡ true → begin_with_pins routes pins ≡ true
         → AllByRecursion (AllByRecursion IsKept) pins → AllByRecursion (AllByRecursion IsOther) pins → list_all (feasible_alone p) pins ≡ true
         → AreLeft pins routes (remaining_routes p name pins routes)
-    lefts [] [] long live feasible begins kept other pins_feasible = record { kept = tt; fewer = λ n. omega arith; feasible = refl; begins = refl; long = refl }
-    lefts [] (route ∷ routes) long live feasible begins kept other pins_feasible = absurd (let h : 0 ≡ suc (length routes) = long in omega arith)
-    lefts (pin ∷ pins) [] long live feasible begins kept other pins_feasible = absurd (let h : suc (length pins) ≡ 0 = long in omega arith)
-    lefts (pin ∷ pins) (route ∷ routes) long live feasible begins kept other pins_feasible =
+    lefts [] [] long known feasible begins kept other pins_feasible = record { kept = tt; fewer = λ n. omega arith; feasible = refl; begins = refl; long = refl }
+    lefts [] (route ∷ routes) long known feasible begins kept other pins_feasible = absurd (let h : 0 ≡ suc (length routes) = long in omega arith)
+    lefts (pin ∷ pins) [] long known feasible begins kept other pins_feasible = absurd (let h : suc (length pins) ≡ 0 = long in omega arith)
+    lefts (pin ∷ pins) (route ∷ routes) long known feasible begins kept other pins_feasible =
         let f = and_parts (feasible_alone p route) (list_all (feasible_alone p) routes) feasible in
         let b = and_parts (starts_with nat_eq route pin) (begin_with_pins routes pins) begins in
         let g = and_parts (feasible_alone p pin) (list_all (feasible_alone p) pins) pins_feasible in
         let same : length pins ≡ length routes = (let h : suc (length pins) ≡ suc (length routes) = long in omega arith) in
-        let here = left law others pin route live.0 f.0 b.0 kept.0 other.0 g.0 in
-        let rest = lefts pins routes same live.1 f.1 b.1 kept.1 other.1 g.1 in
+        let here = left law others pin route known.0 f.0 b.0 kept.0 other.0 g.0 in
+        let rest = lefts pins routes same known.1 f.1 b.1 kept.1 other.1 g.1 in
         let here_fewer = here.fewer in
         let rest_fewer = rest.fewer in
         record {
@@ -205,22 +205,22 @@ module _ (p : Instance) (name : ℕ) (valid : IsInstance p) where
           long = ap suc (rest.long);
         }
 
-    live_of_kept : (ns : List ℕ) → AllByRecursion IsKept ns → list_all (λ n. is_some (stop_at p n)) ns ≡ true
-    live_of_kept [] kept = refl
-    live_of_kept (n ∷ ns) kept = and_from (is_some (stop_at p n)) _ kept.0.0 (live_of_kept ns kept.1)
+    known_of_kept : (ns : List ℕ) → AllByRecursion IsKept ns → list_all (λ n. is_some (stop_at p n)) ns ≡ true
+    known_of_kept [] kept = refl
+    known_of_kept (n ∷ ns) kept = and_from (is_some (stop_at p n)) _ kept.0.0 (known_of_kept ns kept.1)
 
-    module _ (pins routes : List (List ℕ)) (good : passes p pins routes ≡ true) (long : length pins ≡ p.fleet) (live : AllByRecursion (AllByRecursion (IsKnownStop p)) routes)
+    module _ (pins routes : List (List ℕ)) (good : passes p pins routes ≡ true) (long : length pins ≡ p.fleet) (known : AllByRecursion (AllByRecursion (IsKnownStop p)) routes)
         (pins_known : AllByRecursion (AllByRecursion (IsKnownStop p)) pins) (other : AllByRecursion (AllByRecursion IsOther) pins) (pins_feasible : list_all (feasible_alone p) pins ≡ true) where
       pub withdrawn_passes : passes (without_request p name) pins (remaining_routes p name pins routes) ≡ true
       withdrawn_passes =
           let q = without_request p name in
           let new = remaining_routes p name pins routes in
           let parts = parts_of p pins routes good in
-          let all = lefts pins routes (long ∙ sym (parts.fleet)) live (parts.feasible) (parts.pinned) (kept_lists pins pins_known other) other pins_feasible in
+          let all = lefts pins routes (long ∙ sym (parts.fleet)) known (parts.feasible) (parts.pinned) (kept_lists pins pins_known other) other pins_feasible in
           let kept = all_joined IsKept new (all.kept) in
           let fewer = all.fewer in
           from_parts q pins new (record {
-            known = sym (known_same p q IsKept (agree others) (concat new) kept) ∙ live_of_kept (concat new) kept;
+            known = sym (known_same p q IsKept (agree others) (concat new) kept) ∙ known_of_kept (concat new) kept;
             distinct = distinct_from (concat new) (λ n. let h = at_most_once (concat routes) (parts.distinct) n in let k = fewer n in omega arith);
             fleet = all.long ∙ parts.fleet;
             feasible = all.feasible;
@@ -239,6 +239,6 @@ without_once others p name valid route once =
     once_from q rest
     (λ n. let e = times_kept n (λ m. not (is_of_named p (name ∷ []) m)) route in let f = once_few p route once n in omega arith)
     (λ n some. (
-    let here = standing (IsKept p name valid) rest kept n some in
+    let here = holds_for (IsKept p name valid) rest kept n some in
     let same = (agree p name valid others).same n here in
     subst (λ o. IsSome o) (sym (same.stop)) here.0))

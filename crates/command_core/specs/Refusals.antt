@@ -1,5 +1,5 @@
 -- The refusal of a command: the first one that applies, in the order in which the refusals are declared
-use Rattle.std.specs.Prelude.{ℕ, ◌+◌, ◌^◌, nat_le, ◌&&◌, not, Bool, List, take, length, Option, Some, None, if◌then◌else◌}
+use Rattle.std.specs.Prelude.{ℕ, ◌+◌, nat_le, ◌&&◌, not, Bool, List, take, length, Option, Some, None, if◌then◌else◌}
 use Rattle.std.specs.Option.{option_map_or}
 use Rattle.plan_types.specs.Instance.{Instance}
 use Rattle.plan_types.specs.declared.requests.Request.{Request}
@@ -7,7 +7,8 @@ use Rattle.plan_types.specs.Cost.{cost_below}
 use Rattle.route_sched.specs.Cost.{cost_of, is_planned}
 use Rattle.plan_audit.specs.Passes.{feasible_alone, passes}
 use Rattle.move_ops.specs.Insertion.{request_named, route_of}
-use Rattle.plan_types.specs.declared.limits.TheConstants.{MAX_DEVIATION}
+use Rattle.plan_types.specs.declared.limits.TheConstants.{MAX_DEVIATION, MAX_STEPS, MAX_STOP_NUMBER}
+use Rattle.command_types.specs.declared.limits.TheConstants.{MAX_ANNEAL_STEPS, MAX_REDUCE_STEPS, MAX_SEARCH_STEPS}
 use Rattle.command_types.specs.Job.{JobValue}
 use Rattle.command_types.specs.AddedRequests.{is_spot, is_demand}
 use Rattle.command_types.specs.declared.states.State.{State}
@@ -17,10 +18,10 @@ use Rattle.command_types.specs.declared.commands.Command.TheVariants.{Load, Add,
 use Rattle.command_types.specs.declared.refusals.Refusal.{Refusal}
 use Rattle.command_types.specs.declared.refusals.Refusal.TheVariants.{NoInstance, Range, NoSuchRequest, Pinned, NoSuchPlace, NotARoute, NumbersSpent, StepsSpent, NotAPlan, Dearer}
 
--- Why adding this many stops is refused: a field is outside its limits, or a new number is above 40,000
+-- Why adding this many stops is refused: a field is outside its limits, or a new number is above `MAX_STOP_NUMBER`
 abbrev pub add_refusal : Instance → Bool → ℕ → Option Refusal
 add_refusal p are_limits_kept stops =
-    if not are_limits_kept then Some Range else if nat_le (p.next_number + stops) 40001 then None else Some NumbersSpent
+    if not are_limits_kept then Some Range else if nat_le (p.next_number + stops) (MAX_STOP_NUMBER + 1) then None else Some NumbersSpent
 
 -- Why withdrawing this request is refused: one of its stops is pinned
 abbrev pub pinned_refusal : JobValue → Request → Option Refusal
@@ -50,7 +51,7 @@ unpin_refusal p v = if is_vehicle p v then None else Some NoSuchPlace
 -- limit
 abbrev pub steps_refusal : ℕ → ℕ → ℕ → Option Refusal
 steps_refusal most steps count =
-    if not (nat_le 1 count && nat_le count most) then Some Range else if nat_le (steps + count) (2 ^ 60) then None else Some StepsSpent
+    if not (nat_le 1 count && nat_le count most) then Some Range else if nat_le (steps + count) MAX_STEPS then None else Some StepsSpent
 
 abbrev pub deviation_refusal : ℕ → Option Refusal
 deviation_refusal d = if nat_le d MAX_DEVIATION then None else Some Range
@@ -73,11 +74,11 @@ job_refusal j (Withdraw name) = withdraw_refusal j name
 job_refusal j (Pin v k) = pin_refusal j v k
 job_refusal j (Unpin v) = unpin_refusal j.problem v
 job_refusal j Build = None
-job_refusal j (Search count) = steps_refusal 256 j.steps count
+job_refusal j (Search count) = steps_refusal MAX_SEARCH_STEPS j.steps count
 job_refusal j Checkpoint = None
 job_refusal j (Deviation d) = deviation_refusal d
-job_refusal j (Anneal count) = steps_refusal 65536 j.steps count
-job_refusal j (Reduce count) = steps_refusal 524288 j.steps count
+job_refusal j (Anneal count) = steps_refusal MAX_ANNEAL_STEPS j.steps count
+job_refusal j (Reduce count) = steps_refusal MAX_REDUCE_STEPS j.steps count
 job_refusal j (Adopt plan) = adopt_refusal j.problem j.pins j.plan plan.routes
 
 -- Why a state refuses a command: before the first Load, only a Load is accepted

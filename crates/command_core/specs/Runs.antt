@@ -1,12 +1,11 @@
 -- Sequences of commands
 use Rattle.std.specs.Prelude.{◌≡◌, ℕ, ◌+◌, List, [], ◌∷◌, ◌++◌, None, if◌then◌else◌, ⊤}
 use Rattle.std.specs.List.{list_any}
-use Rattle.command_types.specs.Job.{JobValue, IsJob}
+use Rattle.command_types.specs.Job.{JobValue}
 use Rattle.command_types.specs.Commands.{IsCommand, assigned_by, is_change}
 use Rattle.command_core.specs.Effects.{job_after, effect}
 use Rattle.command_core.specs.Refusals.{refusal}
 use Rattle.command_types.specs.declared.states.State.{State}
-use Rattle.command_types.specs.declared.states.State.TheVariants.{Empty, Loaded}
 use Rattle.command_types.specs.declared.commands.Command.{Command}
 
 -- The state after these commands, one by one

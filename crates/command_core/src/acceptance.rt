@@ -1,6 +1,7 @@
 //! `check`: whether a state accepts a command. Refusals are tested in the order in which `Refusal` declares
 //! them.
-ghost use Rattle.std.specs.Prelude.{◌≡◌, ◌≤◌, ◌^◌, None, Some, MatchResult};
+ghost use Rattle.std.specs.Prelude.{◌≡◌, ◌≤◌, None, Some, MatchResult};
+ghost use Rattle.plan_types.specs.declared.limits.TheConstants.{MAX_STEPS};
 ghost use Rattle.command_core.specs.Refusals.{is_vehicle, add_refusal, withdraw_refusal, pin_refusal, unpin_refusal, steps_refusal, deviation_refusal, job_refusal, refusal};
 
 use crate::adopt::adopt_refusal;
@@ -132,7 +133,7 @@ fn is_vehicle(problem: &Problem, vehicle: u32) -> bool
 // Returns why making `count` more steps after `steps` is refused, if it is. One command may make at most
 // `most`.
 fn steps_refusal(most: u32, steps: u64, count: u32) -> Option<Refusal>
-    requires { steps ≤ 2 ^ 60 }
+    requires { steps ≤ MAX_STEPS }
     ensures { result ≡ steps_refusal most steps count }
 {
     if count < 1 || most < count {

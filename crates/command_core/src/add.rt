@@ -1,5 +1,6 @@
 //! Adding requests to a job's problem.
-ghost use Rattle.std.specs.Prelude.{◌≡◌, ◌≤◌, pos, neg_ℤ, None, IfOk, IfErr};
+ghost use Rattle.std.specs.Prelude.{◌≡◌, ◌≤ℤ◌, pos, neg_ℤ, None, IfOk, IfErr};
+ghost use Rattle.plan_types.specs.declared.limits.TheConstants.{MAX_DEMAND};
 ghost use Rattle.plan_types.specs.Instance.{with_request};
 ghost use Rattle.command_types.specs.Job.{IsJob};
 ghost use Rattle.command_types.specs.AddedRequests.{stop_at_spot, single_at, pair_at};
@@ -44,7 +45,7 @@ pub(crate) fn add_single(job: &Job, demand: u32, spot: &Spot) -> Result<Job, Ref
 
 // Returns the demand of the delivery: the negative of the pickup's.
 fn delivery_demand(goods: u32) -> i32
-    requires { goods ≤ 1000000 }
+    requires { pos goods ≤ℤ MAX_DEMAND }
     ensures { result ≡ neg_ℤ (pos goods) }
 {
     -(goods as i32)

@@ -18,9 +18,9 @@ pub(crate) fn pin(alloc: Global, job: &Job, vehicle: u32, stops: u32) -> Result<
     ensures err { IfErr result (λ r. r ≡ Refusal.OutOfMemory) }
 {
     let route = route_of(job.plan.routes.as_slice(), u64::from(vehicle));
-    let mut front = Route::with_capacity(alloc, stops as usize)?;
-    front.extend_from_slice(&route[..stops as usize])?;
-    with_pin(job, vehicle, front)
+    let mut pin = Route::with_capacity(alloc, stops as usize)?;
+    pin.extend_from_slice(&route[..stops as usize])?;
+    with_pin(job, vehicle, pin)
 }
 
 /// Removes the pin of the vehicle.

@@ -32,18 +32,18 @@ pub(crate) fn is_passing(problem: &Problem, pins: &[Route], routes: &[Route]) ->
 fn are_distinct_stops(problem: &Problem, routes: &[Route]) -> bool
     ensures { result ≡ are_distinct_stops problem.now (concat routes.now) }
 {
-    are_live(problem, routes) && are_distinct(routes)
+    are_all_known(problem, routes) && are_distinct(routes)
 }
 
-fn are_live(problem: &Problem, routes: &[Route]) -> bool
+fn are_all_known(problem: &Problem, routes: &[Route]) -> bool
     ensures { result ≡ list_all (list_all (λ n. is_some (stop_at problem.now n))) routes.now }
 {
     routes
         .iter()
-        .all(|route| are_live_in(problem, route.as_slice()))
+        .all(|route| are_known_in(problem, route.as_slice()))
 }
 
-fn are_live_in(problem: &Problem, route: &[u32]) -> bool
+fn are_known_in(problem: &Problem, route: &[u32]) -> bool
     ensures { result ≡ list_all (λ n. is_some (stop_at problem.now n)) route.now }
 {
     route.iter().all(|stop| problem.stop(*stop).is_some())

@@ -1,16 +1,22 @@
 //! `Planner`: a state that commands change in place.
-ghost use Rattle.std.specs.Prelude.{◌≡◌, ◌⊎◌, None, Some, IfOk, IfErr};
+ghost use Rattle.std.specs.Prelude.{◌≡◌, ◌⊎◌, None, Some, IfOk, IfErr, IfSome, MatchOption};
+ghost use Rattle.route_sched.specs.Cost.{cost_of};
+ghost use Rattle.command_types.specs.declared.states.State.TheVariants.{Empty, Loaded};
 ghost use Rattle.command_types.specs.States.{IsState};
 ghost use Rattle.command_core.specs.Refusals.{refusal};
 ghost use Rattle.command_core.specs.Changes.{with_change, IsChanged};
+ghost use Rattle.command_core.specs.KeptSearch.{IsSearchStateOf};
 
 use crate::acceptance::check;
 use crate::changes::Change;
 use crate::effects::{CommandOutcome, execute, keep_invariants};
 use crate::laws::commands_keep_invariants;
-use command_types::{Command, Refusal, State};
+use command_types::{Command, Job, Refusal, State};
 use log::Log;
 use log::sink::Discard;
+use plan_audit::passing_is_local;
+use plan_types::Cost;
+use route_sched::plan_cost;
 use seeded_search::SearchState;
 use std::alloc::Global;
 use std::marker::Model;
@@ -52,6 +58,18 @@ impl Planner {
         ensures { result.now ≡ self.now }
     {
         &self.state
+    }
+
+    /// Returns the job and the cost of its incumbent, if there is a job. After a command that made steps the cost
+    /// is known. Otherwise it is computed.
+    pub fn incumbent(&self) -> Option<(&Job, Cost)>
+        ensures { MatchOption result (self.now ≡ Empty) (λ found. (self.now ≡ Loaded found.0.now)
+            × (found.1 ≡ cost_of found.0.now.problem found.0.now.plan)) }
+    {
+        match &self.state {
+            State::Empty => None,
+            State::Loaded(job) => Some((job, incumbent_cost(job, &self.search_state))),
+        }
     }
 
     /// Consumes the planner and returns its state.
@@ -112,4 +130,16 @@ impl Planner {
         self.search_state = None;
         drop(before.swap_into(&mut self.state));
     }
+}
+
+// Returns the cost of the job's incumbent, which a kept search state knows.
+fn incumbent_cost(job: &Job, kept: &Option<SearchState>) -> Cost
+    requires { IfSome kept.now (IsSearchStateOf job.now) }
+    ensures { result ≡ cost_of job.now.problem job.now.plan }
+{
+    if let Some(search_state) = kept {
+        return search_state.best;
+    }
+    passing_is_local();
+    plan_cost(&job.problem, &job.plan)
 }

@@ -1,5 +1,6 @@
 //! `Reduce`: attempts to use fewer vehicles, then annealing with the remaining steps.
-ghost use Rattle.std.specs.Prelude.{◌≡◌, ◌+◌, ◌<◌, ◌≤◌, ◌-◌, ◌^◌, None, IfOk, IfErr};
+ghost use Rattle.std.specs.Prelude.{◌≡◌, ◌≤◌, ◌-◌, None, IfOk, IfErr};
+ghost use Rattle.plan_types.specs.declared.limits.TheConstants.{MAX_STEPS};
 ghost use Rattle.seeded_search.specs.SearchStates.{IsSearchState, search_plans_of};
 ghost use Rattle.anneal_search.specs.Annealing.{anneal_steps};
 ghost use Rattle.command_core.specs.Effects.{reduced};
@@ -7,7 +8,7 @@ ghost use Rattle.command_core.specs.KeptSearch.{IsStepOutcome};
 ghost use Rattle.command_core.specs.Refusals.{job_refusal};
 ghost use Rattle.command_types.specs.declared.commands.Command.TheVariants.{Reduce};
 
-use crate::step::{StepOutcome, changed_by};
+use crate::step::{StepOutcome, changed_by, context_of};
 use anneal_search::continue_annealing;
 use command_types::{Job, Refusal};
 use fleet_reduction::{attempts_keep_plans, reduce_fleet};
@@ -29,24 +30,10 @@ pub(crate) fn reduce<R: Log>(
     ensures err { IfErr result (λ r. r ≡ Refusal.OutOfMemory) }
 {
     attempts_keep_plans();
-    let tried = reduce_fleet(
-        rt,
-        alloc,
-        &job.problem,
-        &job.pins,
-        &job.plan,
-        job.seed,
-        job.steps,
-        count,
-    )?;
+    let context = context_of(job);
+    let tried = reduce_fleet(rt, alloc, &context, &job.plan, job.steps, count)?;
     let end = job.steps + u64::from(count);
-    let search_state = SearchState::begin(
-        alloc,
-        &job.problem,
-        &job.pins,
-        &tried.plan,
-        &tried.plan,
-    )?;
+    let search_state = SearchState::begin(alloc, &context, &tried.plan, &tried.plan)?;
     let search_state = anneal_to(alloc, job, search_state, tried.step, end)?;
     Ok(changed_by(alloc, job, search_state, end)?)
 }
@@ -61,7 +48,7 @@ fn anneal_to(
 ) -> Result<SearchState, OutOfMemory>
     requires search_state { IsSearchState job.now.problem job.now.pins search_state }
     requires order { step ≤ end }
-    requires last { end ≤ 2 ^ 60 }
+    requires last { end ≤ MAX_STEPS }
     ensures search_plans { IfOk result (λ on. search_plans_of on ≡ anneal_steps job.now.problem job.now.pins
         job.now.deviation job.now.seed step (end - step) (search_plans_of search_state)) }
     ensures search_state { IfOk result (IsSearchState job.now.problem job.now.pins) }
@@ -69,14 +56,5 @@ fn anneal_to(
     if step == end {
         return Ok(search_state);
     }
-    continue_annealing(
-        alloc,
-        &job.problem,
-        &job.pins,
-        search_state,
-        job.deviation,
-        job.seed,
-        step,
-        end - step,
-    )
+    continue_annealing(alloc, &context_of(job), search_state, step, end - step)
 }

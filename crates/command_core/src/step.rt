@@ -10,7 +10,7 @@ use crate::changes::JobChange;
 use anneal_search::continue_annealing;
 use command_types::{Job, Refusal};
 use plan_types::OutOfMemory;
-use seeded_search::{Found, SearchState, continue_search};
+use seeded_search::{Found, SearchContext, SearchState, continue_search};
 use std::alloc::Global;
 
 /// A number of steps, of the search or of annealing.
@@ -44,16 +44,31 @@ pub(crate) fn step(
     alloc: Global,
     job: &Job,
     kept: Option<SearchState>,
-    asked: StepCount,
+    steps: StepCount,
 ) -> Result<StepOutcome, Refusal>
-    requires accepted { job_refusal job.now (command_for asked) ≡ None }
+    requires accepted { job_refusal job.now (command_for steps) ≡ None }
     requires kept { IfSome kept (IsSearchStateOf job.now) }
-    ensures ok { IfOk result (IsStepOutcome job.now (job_after job.now (command_for asked))) }
+    ensures ok { IfOk result (IsStepOutcome job.now (job_after job.now (command_for steps))) }
     ensures err { IfErr result (λ r. r ≡ Refusal.OutOfMemory) }
 {
     let search_state = search_state_of(alloc, job, kept)?;
-    let search_state = step_on(alloc, job, search_state, asked)?;
-    Ok(changed_by(alloc, job, search_state, job.steps + asked.count())?)
+    let search_state = step_on(alloc, job, search_state, steps)?;
+    Ok(changed_by(alloc, job, search_state, job.steps + steps.count())?)
+}
+
+/// Returns the values that all steps of a job share.
+pub(crate) fn context_of(job: &Job) -> SearchContext<'_>
+    ensures problem { result.problem.now ≡ job.now.problem }
+    ensures pins { result.pins.now.routes ≡ job.now.pins }
+    ensures deviation { result.deviation ≡ job.now.deviation }
+    ensures seed { result.seed ≡ job.now.seed }
+{
+    SearchContext {
+        problem: &job.problem,
+        pins: &job.pins,
+        deviation: job.deviation,
+        seed: job.seed,
+    }
 }
 
 // Returns the search state after these steps.
@@ -62,37 +77,20 @@ fn step_on(
     alloc: Global,
     job: &Job,
     search_state: SearchState,
-    asked: StepCount,
+    steps: StepCount,
 ) -> Result<SearchState, OutOfMemory>
-    requires accepted { job_refusal job.now (command_for asked) ≡ None }
+    requires accepted { job_refusal job.now (command_for steps) ≡ None }
     requires search_state { IsSearchStateOf job.now search_state }
     ensures search_state { IfOk result (IsSearchState job.now.problem job.now.pins) }
     ensures job { IfOk result (λ on.
-        with_search_plans job.now on (job.now.steps + steps_of (command_for asked))
-        ≡ job_after job.now (command_for asked)) }
+        with_search_plans job.now on (job.now.steps + steps_of (command_for steps))
+        ≡ job_after job.now (command_for steps)) }
 {
-    let count = asked.count();
-    match asked {
-        StepCount::Search(_) => continue_search(
-            alloc,
-            &job.problem,
-            &job.pins,
-            search_state,
-            job.deviation,
-            job.seed,
-            job.steps,
-            count,
-        ),
-        StepCount::Anneal(_) => continue_annealing(
-            alloc,
-            &job.problem,
-            &job.pins,
-            search_state,
-            job.deviation,
-            job.seed,
-            job.steps,
-            count,
-        ),
+    let context = context_of(job);
+    let count = steps.count();
+    match steps {
+        StepCount::Search(_) => continue_search(alloc, &context, search_state, job.steps, count),
+        StepCount::Anneal(_) => continue_annealing(alloc, &context, search_state, job.steps, count),
     }
 }
 
@@ -107,7 +105,7 @@ fn search_state_of(
 {
     match kept {
         Some(search_state) => Ok(search_state),
-        None => SearchState::begin(alloc, &job.problem, &job.pins, &job.plan, &job.work),
+        None => SearchState::begin(alloc, &context_of(job), &job.plan, &job.work),
     }
 }
 

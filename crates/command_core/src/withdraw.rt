@@ -95,7 +95,7 @@ fn each_remaining_route(
     requires valid { IsInstance problem.now }
     requires taken { without.now ≡ without_request problem.now name }
     requires pins { length pins.now ≡ length routes.now }
-    requires live { All (AreDistinctStops problem.now) routes.now }
+    requires distinct { All (AreDistinctStops problem.now) routes.now }
     ensures { IfOk result (λ new. new ≡ remaining_routes problem.now name pins.now routes.now) }
 {
     let mut left = Routes::with_capacity(alloc, routes.len())?;
@@ -116,7 +116,7 @@ fn remaining_route(
 ) -> Result<Route, OutOfMemory>
     requires valid { IsInstance problem.now }
     requires taken { without.now ≡ without_request problem.now name }
-    requires live { AreDistinctStops problem.now route.now }
+    requires distinct { AreDistinctStops problem.now route.now }
     ensures { IfOk result (λ new. new ≡ remaining_route problem.now name pin.now route.now) }
 {
     take_removes_one_request();

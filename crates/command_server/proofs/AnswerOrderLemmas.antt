@@ -38,7 +38,7 @@ use Rattle.std.proofs.lemmas.Bool.{le-leb}
 use Rattle.std.proofs.lemmas.Grind.{flat_map-append}
 use Rattle.std.proofs.lemmas.List.{append_cancel_left}
 use Rattle.std.proofs.lemmas.List.Sums.{sum_by-append, sum_by-cons}
-use Rattle.command_text.specs.Answering.{Reply, served}
+use Rattle.command_text.specs.Answering.{Reply, pieces_reply}
 use Rattle.command_text.specs.Cutting.{pieces_of}
 use Rattle.command_text.specs.Readings.{Reading}
 use Rattle.recover.specs.Replies.{acknowledged_count, is_acknowledged, kept_first}
@@ -205,7 +205,7 @@ module _ {D : Type 0} (on : sectors.Ghosts D) where
 
 module _ {D : Type 0} (on : sectors.Ghosts D) (reading : Reading) (old new : SessionValue D) (input : List ℕ) (m : ℕ) where
   reported_acknowledged : (acts : List Act) (t : List ℕ) (turns : List Turn) (events others : List Event) → IsRunOfInput on reading old input acts new
-      → AreReported old (λ s. served reading s (pieces_of input)) acts t turns → events_by turns ≡ events ++ others
+      → AreReported old (λ s. pieces_reply reading s (pieces_of input)) acts t turns → events_by turns ≡ events ++ others
       → AllByRecursion (λ event. calls_at event ≤ m) events → ReportsAcknowledged reading old input acts m (put_by events)
   reported_acknowledged acts t turns events others done reported e all =
       let w : Within m turns (put_by events) = within m turns events others e all in
@@ -261,8 +261,8 @@ module _ {D : Type 0} (on : sectors.Ghosts D) where
       noted = append_cancel_left before.events (events ++ others) (events_by cut.answered.turns ++ part)
           (sym e ∙ cut.part.extends.noted ∙ ap (λ l. l ++ part) cut.written.noted ∙ append_assoc before.events (events_by cut.answered.turns) part)
 
-      reported : AreReported old (λ s. served reading s (pieces_of input)) (cut.answered.acts ++ cut.reports.acts) (cut.text ++ take cut.part.len cut.last) turns
-      reported = reported_both old cut.reported (λ s. served reading s (pieces_of input)) (still reading cut.commands cut.following) cut.answered.acts cut.reports.acts cut.text
+      reported : AreReported old (λ s. pieces_reply reading s (pieces_of input)) (cut.answered.acts ++ cut.reports.acts) (cut.text ++ take cut.part.len cut.last) turns
+      reported = reported_both old cut.reported (λ s. pieces_reply reading s (pieces_of input)) (still reading cut.commands cut.following) cut.answered.acts cut.reports.acts cut.text
           (take cut.part.len cut.last) cut.answered.turns (turn ∷ [])
           cut.answered.reported cut.answered.says
           (reported_once cut.reported (still reading cut.commands cut.following) cut.reports.acts (take cut.part.len cut.last) cut.part.texts (on.calls new.device)

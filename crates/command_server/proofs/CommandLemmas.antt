@@ -37,7 +37,7 @@ use Rattle.std.proofs.lemmas.Bool.{lt-ltb, ltb-true}
 use Rattle.std.proofs.lemmas.List.{take-append-le, drop-append-le, drop_all, take_all}
 use Rattle.command_text.specs.declared.parsed_command.Purpose.{Purpose}
 use Rattle.command_types.specs.declared.commands.Command.{Command}
-use Rattle.command_text.specs.Answering.{Fate, Reply, ServerState, command_reply, executed_all, joined_replies, reply, served}
+use Rattle.command_text.specs.Answering.{Fate, Reply, ServerState, command_reply, operations_reply, joined_replies, reply, pieces_reply}
 use Rattle.command_text.specs.Cutting.{Piece, is_short, pieces_of}
 use Rattle.command_text.specs.Laws.{StatesFollow, cut_at}
 use Rattle.command_text.specs.Readings.{Reading}
@@ -65,12 +65,12 @@ use Rattle.sector_disk.specs.declared.sectors.Sectors as sectors
 
 -- ---- a piece, and those after it
 
-served_cons : (reading : Reading) (s : ServerState) (p : Piece) (ps : List Piece) → served reading s (p ∷ ps) ≡ joined_replies (reply reading s p) (served reading (reply reading s p).left ps)
-unfolding served
+served_cons : (reading : Reading) (s : ServerState) (p : Piece) (ps : List Piece) → pieces_reply reading s (p ∷ ps) ≡ joined_replies (reply reading s p) (pieces_reply reading (reply reading s p).left ps)
+unfolding pieces_reply
 served_cons reading s p ps = refl
 
-served_none : (reading : Reading) (s : ServerState) → served reading s [] ≡ silent s
-unfolding served
+served_none : (reading : Reading) (s : ServerState) → pieces_reply reading s [] ≡ silent s
+unfolding pieces_reply
 served_none reading s = refl
 
 reply_is : (reading : Reading) (s : ServerState) (p : Piece) → reply reading s p ≡ command_reply reading s p.requested p.text (is_short p)
@@ -81,10 +81,10 @@ joined_silent : (t : List ℕ) (c : List Command) (s : ServerState) (r : Reply) 
 joined_silent t c s r = ap₂ {C = Reply} (λ (x : List ℕ) (y : List Command). record { text = x ++ r.text; commands = y ++ r.commands; left = r.left }) (append-nil t) (append-nil c)
 
 requested_serves : {D : Type 0} {on : sectors.Ghosts D} (reading : Reading) (old new : SessionValue D) (p : Piece) (ps : List Piece) (x y : Stream)
-    → Serves on old (λ s. command_reply reading s p.requested p.text (is_short p)) x y new silent → Serves on old (λ s. served reading s (p ∷ ps)) x y new (λ s. served reading s ps)
+    → Serves on old (λ s. command_reply reading s p.requested p.text (is_short p)) x y new silent → Serves on old (λ s. pieces_reply reading s (p ∷ ps)) x y new (λ s. pieces_reply reading s ps)
 requested_serves reading old new p ps x y serves =
-    let first : (s : ServerState) → served reading s (p ∷ ps) ≡ (let r = command_reply reading s p.requested p.text (is_short p) in joined_replies r (served reading r.left ps)) =
-    λ s. served_cons reading s p ps ∙ ap (λ (r : Reply). joined_replies r (served reading r.left ps)) (reply_is reading s p) in
+    let first : (s : ServerState) → pieces_reply reading s (p ∷ ps) ≡ (let r = command_reply reading s p.requested p.text (is_short p) in joined_replies r (pieces_reply reading r.left ps)) =
+    λ s. served_cons reading s p ps ∙ ap (λ (r : Reply). joined_replies r (pieces_reply reading r.left ps)) (reply_is reading s p) in
     let acts = serves.leads.acts in
     record {
       text = serves.text;
@@ -92,20 +92,20 @@ requested_serves reading old new p ps x y serves =
         acts = acts;
         turns = serves.leads.turns;
         run = serves.leads.run;
-        reported = reported_before old (λ s. command_reply reading s p.requested p.text (is_short p)) (λ s. served reading s (p ∷ ps)) acts serves.text serves.leads.turns
+        reported = reported_before old (λ s. command_reply reading s p.requested p.text (is_short p)) (λ s. pieces_reply reading s (p ∷ ps)) acts serves.text serves.leads.turns
             (λ s.
-            let following = served reading (command_reply reading s p.requested p.text (is_short p)).left ps in
+            let following = pieces_reply reading (command_reply reading s p.requested p.text (is_short p)).left ps in
             record {
               text = record { rest = following.text; whole = ap (λ (r : Reply). r.text) (first s) };
               commands = record { rest = following.commands; whole = ap (λ (r : Reply). r.commands) (first s) };
             })
             serves.leads.reported;
         says = λ later.
-            first (as_server_state old (fates_of acts ++ later)) ∙ ap (λ (r : Reply). joined_replies r (served reading r.left ps)) (serves.leads.says later)
-            ∙ joined_silent serves.text (executed_of acts) (as_server_state new later) (served reading (as_server_state new later) ps);
-        requested = requested_front old (λ s. command_reply reading s p.requested p.text (is_short p)) (λ s. served reading s (p ∷ ps)) acts
+            first (as_server_state old (fates_of acts ++ later)) ∙ ap (λ (r : Reply). joined_replies r (pieces_reply reading r.left ps)) (serves.leads.says later)
+            ∙ joined_silent serves.text (executed_of acts) (as_server_state new later) (pieces_reply reading (as_server_state new later) ps);
+        requested = requested_front old (λ s. command_reply reading s p.requested p.text (is_short p)) (λ s. pieces_reply reading s (p ∷ ps)) acts
             (λ fates. record {
-              rest = (served reading (command_reply reading (as_server_state old fates) p.requested p.text (is_short p)).left ps).commands;
+              rest = (pieces_reply reading (command_reply reading (as_server_state old fates) p.requested p.text (is_short p)).left ps).commands;
               whole = ap (λ (r : Reply). r.commands) (first (as_server_state old fates));
             })
             serves.leads.requested;
@@ -118,11 +118,11 @@ requested_serves reading old new p ps x y serves =
     }
 
 ended_serves : {D : Type 0} {on : sectors.Ghosts D} (reading : Reading) (old new : SessionValue D) (f : ServerState → Reply) (x y : Stream)
-    → Serves on old f x y new (λ s. served reading s []) → Serves on old f x y new silent
+    → Serves on old f x y new (λ s. pieces_reply reading s []) → Serves on old f x y new silent
 unfolding leads_to
 ended_serves reading old new f x y serves = record {
   text = serves.text;
-  leads = leads_to old new f (λ s. served reading s []) silent serves.text (λ fates. served_none reading (as_server_state new fates)) serves.leads;
+  leads = leads_to old new f (λ s. pieces_reply reading s []) silent serves.text (λ fates. served_none reading (as_server_state new fates)) serves.leads;
   written = serves.written;
 }
 
@@ -131,9 +131,9 @@ ended_serves reading old new f x y serves = record {
 module _ {D : Type 0} {on : sectors.Ghosts D} (reading : Reading) where
   -- the reply to the rest of the input is that to its pieces
   as_pieces : (goes : Flow) (left : List ℕ) (old new : SessionValue D) (f : ServerState → Reply) (t : List ℕ) → Leads on old f t new (remaining_reply reading goes left)
-      → Leads on old f t new (λ s. served reading s (pieces_after goes left))
+      → Leads on old f t new (λ s. pieces_reply reading s (pieces_after goes left))
   as_pieces Continue left old new f t leads = leads
-  as_pieces Finish left old new f t leads = leads_to old new f silent (λ s. served reading s []) t (λ fates. sym (served_none reading (as_server_state new fates))) leads
+  as_pieces Finish left old new f t leads = leads_to old new f silent (λ s. pieces_reply reading s []) t (λ fates. sym (served_none reading (as_server_state new fates))) leads
 
   same_turns : (goes : Flow) (left : List ℕ) (old new : SessionValue D) (f : ServerState → Reply) (t : List ℕ)
       (leads : Leads on old f t new (remaining_reply reading goes left)) → (as_pieces goes left old new f t leads).turns ≡ leads.turns
@@ -144,27 +144,27 @@ module _ {D : Type 0} {on : sectors.Ghosts D} (reading : Reading) where
   -- before the first piece, no turn is needed to answer anything
   none_answered : (old : SessionValue D) (pieces : List Piece) (turns : List Turn) → AreAnswered on reading old pieces pieces turns
   unfolding leads_nothing
-  none_answered old pieces turns = record { mid = old; text = []; leads = leads_nothing old (λ s. served reading s pieces); rest = turns; first = refl }
+  none_answered old pieces turns = record { mid = old; text = []; leads = leads_nothing old (λ s. pieces_reply reading s pieces); rest = turns; first = refl }
 
   answered_on : (old : SessionValue D) (pieces following : List Piece) (turns more : List Turn) → AreAnswered on reading old pieces following turns → AreAnswered on reading old pieces following (turns ++ more)
   answered_on old pieces following turns more p =
       record { mid = p.mid; text = p.text; leads = p.leads; rest = p.rest ++ more; first = ap (λ l. l ++ more) p.first ∙ append_assoc p.leads.turns p.rest more }
 
   answered_after : (old mid : SessionValue D) (pieces between following : List Piece) (t : List ℕ)
-      (first : Leads on old (λ s. served reading s pieces) t mid (λ s. served reading s between)) (turns : List Turn)
+      (first : Leads on old (λ s. pieces_reply reading s pieces) t mid (λ s. pieces_reply reading s between)) (turns : List Turn)
       → AreAnswered on reading mid between following turns → AreAnswered on reading old pieces following (first.turns ++ turns)
   unfolding leads_on
   answered_after old mid pieces between following t first turns p = record {
     mid = p.mid;
     text = t ++ p.text;
-    leads = leads_on old mid p.mid (λ s. served reading s pieces) (λ s. served reading s between) (λ s. served reading s following) t p.text first p.leads;
+    leads = leads_on old mid p.mid (λ s. pieces_reply reading s pieces) (λ s. pieces_reply reading s between) (λ s. pieces_reply reading s following) t p.text first p.leads;
     rest = p.rest;
     first = ap (λ l. first.turns ++ l) p.first ∙ sym (append_assoc first.turns p.leads.turns p.rest);
   }
 
   -- the case of a piece that was answered
   piece_answered : (old new : SessionValue D) (p : Piece) (all : List Piece) (t : List ℕ) (goes : Flow) (left : List ℕ) → all ≡ p ∷ pieces_after goes left
-      → (leads : Leads on old (λ s. served reading s all) t new (remaining_reply reading goes left))
+      → (leads : Leads on old (λ s. pieces_reply reading s all) t new (remaining_reply reading goes left))
       → (some others : List Piece) → p ∷ [] ≡ some ++ others → AreAnswered on reading old all (others ++ pieces_after goes left) leads.turns
   piece_answered old new p all t goes left is leads [] others e =
       subst (λ ps. AreAnswered on reading old all ps leads.turns) (is ∙ ap (λ ps. ps ++ pieces_after goes left) e) (none_answered old all leads.turns)
@@ -174,9 +174,9 @@ module _ {D : Type 0} {on : sectors.Ghosts D} (reading : Reading) where
       (record {
         mid = new;
         text = t;
-        leads = as_pieces goes left old new (λ s. served reading s all) t leads;
+        leads = as_pieces goes left old new (λ s. pieces_reply reading s all) t leads;
         rest = [];
-        first = sym (same_turns goes left old new (λ s. served reading s all) t leads) ∙ sym (append-nil (as_pieces goes left old new (λ s. served reading s all) t leads).turns);
+        first = sym (same_turns goes left old new (λ s. pieces_reply reading s all) t leads) ∙ sym (append-nil (as_pieces goes left old new (λ s. pieces_reply reading s all) t leads).turns);
       })
   piece_answered old new p all t goes left is leads (x ∷ y ∷ some) others e = absurd cc
 
@@ -200,13 +200,13 @@ joined_on t c r q = ap₂ {C = Reply} (λ (x : List ℕ) (y : List Command). rec
 module _ {D : Type 0} (on : sectors.Ghosts D) (reading : Reading) (old new : SessionValue D) (p : Piece) (ps : List Piece) (x y : Stream) where
   -- the answer to a piece and the answers to those after it
   abbrev with_rest : (ServerState → Reply) → ServerState → Reply
-  with_rest f s = let r = f s in joined_replies r (served reading r.left ps)
+  with_rest f s = let r = f s in joined_replies r (pieces_reply reading r.left ps)
 
   abbrev requests_kept : ServerState → Reply
   requests_kept s = command_reply reading s p.requested p.text (is_short p)
 
-  served_first : (s : ServerState) → served reading s (p ∷ ps) ≡ with_rest requests_kept s
-  served_first s = served_cons reading s p ps ∙ ap (λ (r : Reply). joined_replies r (served reading r.left ps)) (reply_is reading s p)
+  served_first : (s : ServerState) → pieces_reply reading s (p ∷ ps) ≡ with_rest requests_kept s
+  served_first s = served_cons reading s p ps ∙ ap (λ (r : Reply). joined_replies r (pieces_reply reading r.left ps)) (reply_is reading s p)
 
   leads_within : (reported : SessionValue D) (f g : ServerState → Reply) (t : List ℕ) → Leads on old f t reported g → Leads on old (with_rest f) t reported (with_rest g)
   leads_within reported f g t l = record {
@@ -214,32 +214,32 @@ module _ {D : Type 0} (on : sectors.Ghosts D) (reading : Reading) (old new : Ses
     turns = l.turns;
     run = l.run;
     reported = reported_before old f (with_rest f) l.acts t l.turns
-        (λ s. record { text = record { rest = (served reading (f s).left ps).text; whole = refl }; commands = record { rest = (served reading (f s).left ps).commands; whole = refl } }) l.reported;
+        (λ s. record { text = record { rest = (pieces_reply reading (f s).left ps).text; whole = refl }; commands = record { rest = (pieces_reply reading (f s).left ps).commands; whole = refl } }) l.reported;
     says = λ later.
-        ap (λ (r : Reply). joined_replies r (served reading r.left ps)) (l.says later)
-        ∙ joined_on t (executed_of l.acts) (g (as_server_state reported later)) (served reading (g (as_server_state reported later)).left ps);
-    requested = requested_front old f (with_rest f) l.acts (λ fates. record { rest = (served reading (f (as_server_state old fates)).left ps).commands; whole = refl }) l.requested;
+        ap (λ (r : Reply). joined_replies r (pieces_reply reading r.left ps)) (l.says later)
+        ∙ joined_on t (executed_of l.acts) (g (as_server_state reported later)) (pieces_reply reading (g (as_server_state reported later)).left ps);
+    requested = requested_front old f (with_rest f) l.acts (λ fates. record { rest = (pieces_reply reading (f (as_server_state old fates)).left ps).commands; whole = refl }) l.requested;
     requests_kept = λ later. begins_before (kept_of l.acts) _ _ (l.requests_kept later);
     state = l.state;
   }
 
-  leads_first : (reported : SessionValue D) (g : ServerState → Reply) (t : List ℕ) → Leads on old requests_kept t reported g → Leads on old (λ s. served reading s (p ∷ ps)) t reported (with_rest g)
-  leads_first reported g t l = leads_as old reported (with_rest requests_kept) (λ s. served reading s (p ∷ ps)) (with_rest g) t (λ fates. served_first (as_server_state old fates)) (leads_within reported requests_kept g t l)
+  leads_first : (reported : SessionValue D) (g : ServerState → Reply) (t : List ℕ) → Leads on old requests_kept t reported g → Leads on old (λ s. pieces_reply reading s (p ∷ ps)) t reported (with_rest g)
+  leads_first reported g t l = leads_as old reported (with_rest requests_kept) (λ s. pieces_reply reading s (p ∷ ps)) (with_rest g) t (λ fates. served_first (as_server_state old fates)) (leads_within reported requests_kept g t l)
 
   reports_within : (reported : SessionValue D) (f g : ServerState → Reply) (t : List ℕ) → Reports on reported f t new g → Reports on reported (with_rest f) t new (with_rest g)
   reports_within reported f g t l = record {
     acts = l.acts;
     run = l.run;
     says = λ later.
-        ap (λ (r : Reply). joined_replies r (served reading r.left ps)) (l.says later) ∙ joined_on t (executed_of l.acts) (g (as_server_state new later)) (served reading (g (as_server_state new later)).left ps);
-    requested = requested_front reported f (with_rest f) l.acts (λ fates. record { rest = (served reading (f (as_server_state reported fates)).left ps).commands; whole = refl }) l.requested;
+        ap (λ (r : Reply). joined_replies r (pieces_reply reading r.left ps)) (l.says later) ∙ joined_on t (executed_of l.acts) (g (as_server_state new later)) (pieces_reply reading (g (as_server_state new later)).left ps);
+    requested = requested_front reported f (with_rest f) l.acts (λ fates. record { rest = (pieces_reply reading (f (as_server_state reported fates)).left ps).commands; whole = refl }) l.requested;
     requests_kept = λ later. begins_before (kept_of l.acts) _ _ (l.requests_kept later);
     state = l.state;
     few = l.few;
   }
 
-  reports_first : (g : ServerState → Reply) (t : List ℕ) → Reports on old requests_kept t new g → Reports on old (λ s. served reading s (p ∷ ps)) t new (with_rest g)
-  reports_first g t l = reports_as old new (with_rest requests_kept) (λ s. served reading s (p ∷ ps)) (with_rest g) t (λ fates. served_first (as_server_state old fates)) (reports_within old requests_kept g t l)
+  reports_first : (g : ServerState → Reply) (t : List ℕ) → Reports on old requests_kept t new g → Reports on old (λ s. pieces_reply reading s (p ∷ ps)) t new (with_rest g)
+  reports_first g t l = reports_as old new (with_rest requests_kept) (λ s. pieces_reply reading s (p ∷ ps)) (with_rest g) t (λ fates. served_first (as_server_state old fates)) (reports_within old requests_kept g t l)
 
   -- the answers to the steps that are left, and to the pieces after them
   rest_is : (later : Option (List Command)) (s : ServerState) → with_rest (still_executed later) s ≡ still reading later ps s
@@ -259,7 +259,7 @@ module _ {D : Type 0} (on : sectors.Ghosts D) (reading : Reading) (old new : Ses
     split = refl;
     reported = old;
     text = [];
-    answered = leads_nothing old (λ s. served reading s (p ∷ ps));
+    answered = leads_nothing old (λ s. pieces_reply reading s (p ∷ ps));
     lines = no_piece reading old (p ∷ ps) (p ∷ ps) [];
     later_commands = c.later;
     begun = p ∷ [];
@@ -267,7 +267,7 @@ module _ {D : Type 0} (on : sectors.Ghosts D) (reading : Reading) (old new : Ses
     later_split = refl;
     one = omega arith;
     last = c.last;
-    reports = reports_still old (λ s. served reading s (p ∷ ps)) c.later c.last (reports_first (still_executed c.later) c.last c.reports);
+    reports = reports_still old (λ s. pieces_reply reading s (p ∷ ps)) c.later c.last (reports_first (still_executed c.later) c.last c.reports);
     flushed_stream = x;
     written = extends_none x;
     part = c.part;
@@ -279,7 +279,7 @@ module _ {D : Type 0} (on : sectors.Ghosts D) (reading : Reading) (old new : Ses
     split = refl;
     reported = c.reported;
     text = c.text;
-    answered = leads_first c.reported (λ s. executed_all s c.commands) c.text c.answered;
+    answered = leads_first c.reported (λ s. operations_reply s c.commands) c.text c.answered;
     lines = piece_begun reading old p ps c.answered.turns;
     later_commands = c.later;
     begun = [];
@@ -287,7 +287,7 @@ module _ {D : Type 0} (on : sectors.Ghosts D) (reading : Reading) (old new : Ses
     later_split = refl;
     one = omega arith;
     last = c.last;
-    reports = reports_still c.reported (with_rest (λ s. executed_all s c.commands)) c.later c.last (reports_within c.reported (λ s. executed_all s c.commands) (still_executed c.later) c.last c.reports);
+    reports = reports_still c.reported (with_rest (λ s. operations_reply s c.commands)) c.later c.last (reports_within c.reported (λ s. operations_reply s c.commands) (still_executed c.later) c.last c.reports);
     flushed_stream = c.flushed_stream;
     written = c.written;
     part = c.part;
@@ -299,7 +299,7 @@ line_served_on : {D : Type 0} {on : sectors.Ghosts D} (reading : Reading) (a : P
     (known : Option (List ℕ)) → cut_at a rest ≡ record { requested = a; text = [] } ∷ pieces_of rest → known ≡ Some rest
     → Serves on old (λ s. command_reply reading s a [] (is_short (record { requested = a; text = [] }))) x y new silent → ServesPieces on reading old (cut_at a rest) x y new Continue known
 line_served_on {on = on} reading a rest old new x y known cut is serves =
-    let all = subst (λ ps. Serves on old (λ s. served reading s ps) x y new (λ s. served reading s (pieces_of rest))) (sym cut)
+    let all = subst (λ ps. Serves on old (λ s. pieces_reply reading s ps) x y new (λ s. pieces_reply reading s (pieces_of rest))) (sym cut)
     (requested_serves reading old new (record { requested = a; text = [] }) (pieces_of rest) x y serves) in
     record {
       left = rest;
@@ -314,8 +314,8 @@ line_served_last : {D : Type 0} {on : sectors.Ghosts D} (reading : Reading) (a :
     (known : Option (List ℕ)) → cut_at a rest ≡ record { requested = a; text = [] } ∷ [] → known ≡ Some rest
     → Serves on old (λ s. command_reply reading s a [] (is_short (record { requested = a; text = [] }))) x y new silent → ServesPieces on reading old (cut_at a rest) x y new Finish known
 line_served_last {on = on} reading a rest old new x y known cut is serves =
-    let all = subst (λ ps. Serves on old (λ s. served reading s ps) x y new silent) (sym cut)
-    (ended_serves reading old new (λ s. served reading s (record { requested = a; text = [] } ∷ [])) x y (requested_serves reading old new (record { requested = a; text = [] }) [] x y serves)) in
+    let all = subst (λ ps. Serves on old (λ s. pieces_reply reading s ps) x y new silent) (sym cut)
+    (ended_serves reading old new (λ s. pieces_reply reading s (record { requested = a; text = [] } ∷ [])) x y (requested_serves reading old new (record { requested = a; text = [] }) [] x y serves)) in
     record {
       left = rest;
       is_known = is;
@@ -387,11 +387,11 @@ module _ {D : Type 0} (on : sectors.Ghosts D) (reading : Reading) (purpose : Pur
   -- an answer was written, and the announced bytes have arrived
   told_of : {E : Type 0} (reported : Result ⊤ E) (to : Flow) (bytes : List ℕ) (ps : List Piece) (rest left : List ℕ) → MatchResult reported (λ _. r ≡ Ok to) (λ _. r ≡ Err fault.WriteFault)
       → cut_at (Text purpose len) rest ≡ text_piece bytes ∷ ps → Answers on reported old (λ s. command_reply reading s (Text purpose len) bytes (is_short (text_piece bytes))) x y new silent
-      → (Serves on old (λ s. served reading s (text_piece bytes ∷ ps)) x y new (λ s. served reading s ps)
-      → Serves on old (λ s. served reading s (text_piece bytes ∷ ps)) x y new (remaining_reply reading to left))
+      → (Serves on old (λ s. pieces_reply reading s (text_piece bytes ∷ ps)) x y new (λ s. pieces_reply reading s ps)
+      → Serves on old (λ s. pieces_reply reading s (text_piece bytes ∷ ps)) x y new (remaining_reply reading to left))
       → ps ≡ pieces_after to left → ContinuesOrIsCut on r reading old (cut_at (Text purpose len) rest) x y new (Some left)
   told_of (Ok done) to bytes ps rest left is cut answers ends following =
-      let all = subst (λ qs. Serves on old (λ s. served reading s qs) x y new (remaining_reply reading to left)) (sym cut) (ends (requested_serves reading old new (text_piece bytes) ps x y answers)) in
+      let all = subst (λ qs. Serves on old (λ s. pieces_reply reading s qs) x y new (remaining_reply reading to left)) (sym cut) (ends (requested_serves reading old new (text_piece bytes) ps x y answers)) in
       let split = cut ∙ ap (λ qs. text_piece bytes ∷ qs) following in
       subst (λ r. ContinuesOrIsCut on r reading old (cut_at (Text purpose len) rest) x y new (Some left)) (sym is)
       (record {
@@ -421,7 +421,7 @@ module _ {D : Type 0} (on : sectors.Ghosts D) (reading : Reading) (purpose : Pur
         told_of reported Finish bytes [] rest left flow_or_fault (ap (cut_at (Text purpose len)) (moves ∙ ap (λ l. bytes ++ l) end ∙ append-nil bytes) ∙ short_cut purpose len bytes less)
         (answers_as on reported old new (announced_reply Short reading purpose bytes) (λ s. command_reply reading s (Text purpose len) bytes (is_short (text_piece bytes))) silent x y
         (same_reply bytes true (lt-ltb (length bytes) len less) (announced_reply Short reading purpose bytes) (λ s. refl)) answers)
-        (λ serves. ended_serves reading old new (λ s. served reading s (text_piece bytes ∷ [])) x y serves) refl
+        (λ serves. ended_serves reading old new (λ s. pieces_reply reading s (text_piece bytes ∷ [])) x y serves) refl
 
     text_by : (rest : List ℕ) (text : AnnouncedText) (known : Option (List ℕ)) → TakesAll len (Some rest) known text → MatchResult reported (λ _. r ≡ Ok (flow_after text)) (λ _. r ≡ Err fault.WriteFault)
         → ((bytes : List ℕ) → Answers on reported old (announced_reply text reading purpose bytes) x y new silent) → ContinuesOrIsCut on r reading old (cut_at (Text purpose len) rest) x y new known
@@ -446,7 +446,7 @@ pub all_served : {D : Type 0} {on : sectors.Ghosts D} (follow : StatesFollow) (r
 all_served {on = on} follow reading old new input x y known p =
     let serves = p.serves in
     let acts = serves.leads.acts in
-    let all : ServerState → Reply = λ s. served reading s (pieces_of input) in
+    let all : ServerState → Reply = λ s. pieces_reply reading s (pieces_of input) in
     let said : all (as_server_state old (fates_of acts)) ≡ preceded serves.text (executed_of acts) (silent (as_server_state new [])) =
     ap (λ fates. all (as_server_state old fates)) (sym (append-nil (fates_of acts))) ∙ serves.leads.says [] in
     let left : (all (as_server_state old (fates_of acts))).left ≡ as_server_state new [] = ap (λ (r : Reply). r.left) said in
@@ -480,11 +480,11 @@ joined_split all front more following rest first second = first ∙ ap (λ ps. f
 pub input_begun : {D : Type 0} {on : sectors.Ghosts D} (reading : Reading) (s : SessionValue D) (input : List ℕ) (o : Stream) (known : Option (List ℕ))
     → known ≡ Some input → ServesPieces on reading s (pieces_of input) o o s Continue known
 input_begun {on = on} reading s input o known is = record
-    { left = input; is_known = is; front = []; split = refl; serves = serves_nothing s (λ t. served reading t (pieces_of input)) o; lines = none_yet }
+    { left = input; is_known = is; front = []; split = refl; serves = serves_nothing s (λ t. pieces_reply reading t (pieces_of input)) o; lines = none_yet }
   where
     none_yet : (some others : List Piece) → [] ≡ some ++ others
         → AreAnswered on reading s (pieces_of input) (others ++ pieces_of input)
-        (serves_nothing {on = on} s (λ t. served reading t (pieces_of input)) o).leads.turns
+        (serves_nothing {on = on} s (λ t. pieces_reply reading t (pieces_of input)) o).leads.turns
     none_yet [] [] e = none_answered reading s (pieces_of input) _
     none_yet [] (x ∷ others) e = absurd cc
     none_yet (x ∷ some) others e = absurd cc
@@ -503,7 +503,7 @@ module _ {D : Type 0} {on : sectors.Ghosts D} (reading : Reading) (old mid new :
     is_known = q.is_known;
     front = p.front ++ q.front;
     split = joined_split pieces p.front q.front (pieces_of p.left) (pieces_after goes q.left) p.split q.split;
-    serves = serves_on old mid new (λ s. served reading s pieces) (λ s. served reading s (pieces_of p.left)) (remaining_reply reading goes q.left) x y z p.serves q.serves;
+    serves = serves_on old mid new (λ s. pieces_reply reading s pieces) (λ s. pieces_reply reading s (pieces_of p.left)) (remaining_reply reading goes q.left) x y z p.serves q.serves;
     lines = λ some others e. at some others (either_part p.front q.front some others e);
   }
     where
@@ -537,8 +537,8 @@ module _ {D : Type 0} {on : sectors.Ghosts D} (reading : Reading) (old mid new :
         split = p.split ∙ ap (λ ps. p.front ++ ps) nothing;
         serves = record {
           text = p.serves.text;
-          leads = leads_to old mid (λ s. served reading s pieces) (λ s. served reading s (pieces_of p.left)) silent p.serves.text
-              (λ fates. ap (served reading (as_server_state mid fates)) nothing ∙ served_none reading (as_server_state mid fates)) p.serves.leads;
+          leads = leads_to old mid (λ s. pieces_reply reading s pieces) (λ s. pieces_reply reading s (pieces_of p.left)) silent p.serves.text
+              (λ fates. ap (pieces_reply reading (as_server_state mid fates)) nothing ∙ served_none reading (as_server_state mid fates)) p.serves.leads;
           written = p.serves.written;
         };
         lines = λ some others e. subst (λ ps. AreAnswered on reading old pieces (others ++ ps) p.serves.leads.turns) nothing (p.lines some others e);
@@ -548,7 +548,7 @@ module _ {D : Type 0} {on : sectors.Ghosts D} (reading : Reading) (old mid new :
 
 -- the case that no command was being executed
 cut_where : {D : Type 0} {on : sectors.Ghosts D} (reading : Reading) (old mid : SessionValue D) (pieces front following : List Piece) (x y : Stream) → pieces ≡ front ++ following
-    → (serves : Serves on old (λ s. served reading s pieces) x y mid (λ s. served reading s following))
+    → (serves : Serves on old (λ s. pieces_reply reading s pieces) x y mid (λ s. pieces_reply reading s following))
     → ((some others : List Piece) (next : Piece) → front ≡ some ++ next ∷ others
     → AreAnswered on reading old pieces (next ∷ (others ++ following)) serves.leads.turns) → IsCutShort on reading old pieces x y mid
 cut_where {on = on} reading old mid pieces front following x y split serves lines = record {
@@ -566,7 +566,7 @@ cut_where {on = on} reading old mid pieces front following x y split serves line
   later_split = refl;
   one = omega arith;
   last = [];
-  reports = reports_nothing mid (λ s. served reading s following);
+  reports = reports_nothing mid (λ s. pieces_reply reading s following);
   flushed_stream = y;
   written = serves.written;
   part = none_put y (on.calls mid.device);
@@ -578,7 +578,7 @@ cut_between reading old mid pieces x y known p = cut_where reading old mid piece
 
 -- the case that nothing was served yet
 pub cut_at_once : {D : Type 0} {on : sectors.Ghosts D} (reading : Reading) (old : SessionValue D) (pieces : List Piece) (x : Stream) → IsCutShort on reading old pieces x x old
-cut_at_once reading old pieces x = cut_where reading old old pieces [] pieces x x refl (serves_nothing old (λ s. served reading s pieces) x) (no_piece reading old pieces pieces _)
+cut_at_once reading old pieces x = cut_where reading old old pieces [] pieces x x refl (serves_nothing old (λ s. pieces_reply reading s pieces) x) (no_piece reading old pieces pieces _)
 
 -- the case that other pieces were served before
 module _ {D : Type 0} {on : sectors.Ghosts D} (reading : Reading) (old mid new : SessionValue D) (pieces : List Piece) (x y z : Stream) where
@@ -591,7 +591,7 @@ module _ {D : Type 0} {on : sectors.Ghosts D} (reading : Reading) (old mid new :
     split = joined_split pieces p.front c.front (pieces_of p.left) c.following p.split c.split;
     reported = c.reported;
     text = p.serves.text ++ c.text;
-    answered = leads_on old mid c.reported (λ s. served reading s pieces) (λ s. served reading s (pieces_of p.left)) (still reading c.commands c.following) p.serves.text c.text p.serves.leads c.answered;
+    answered = leads_on old mid c.reported (λ s. pieces_reply reading s pieces) (λ s. pieces_reply reading s (pieces_of p.left)) (still reading c.commands c.following) p.serves.text c.text p.serves.leads c.answered;
     lines = λ some others next e. at some others next (either_part p.front c.front some (next ∷ others) e);
     later_commands = c.later_commands;
     begun = c.begun;

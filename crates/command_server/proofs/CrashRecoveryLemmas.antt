@@ -3,7 +3,7 @@ use Rattle.std.proofs.Common.{List, [], ◌++◌, sym, ap, append-nil}
 use Rattle.std.specs.Prelude.{Result, Ok, Err}
 use Rattle.command_types.specs.declared.commands.Command.{Command}
 use Rattle.command_types.specs.declared.states.State.{State}
-use Rattle.command_text.specs.Answering.{Fate, served}
+use Rattle.command_text.specs.Answering.{Fate, pieces_reply}
 use Rattle.command_text.specs.Cutting.{pieces_of}
 use Rattle.checkpoint.specs.declared.faults.StoreFault.{StoreFault}
 use Rattle.checkpoint.specs.declared.faults.StoreFault.TheVariants.{NotFormatted, BadVersion, Codec, Spent, OutOfMemory, DeviceFault}
@@ -22,12 +22,12 @@ module _ {D : Type 0} (on : sectors.Ghosts D) where
   servings_are_runs reading old new input before after_it (Err fault) cut =
       let first = cut.answered.acts in
       let last = cut.reports.acts in
-      let all : List Fate → List Command = λ fates. (served reading (as_server_state old fates) (pieces_of input)).commands in
+      let all : List Fate → List Command = λ fates. (pieces_reply reading (as_server_state old fates) (pieces_of input)).commands in
       record {
         run = run_both on old cut.reported new first last cut.answered.run cut.reports.run;
-        requested = requested_both first last old cut.reported (λ s. served reading s (pieces_of input)) (still reading cut.commands cut.following) cut.text cut.answered.says cut.answered.requested cut.reports.requested;
+        requested = requested_both first last old cut.reported (λ s. pieces_reply reading s (pieces_of input)) (still reading cut.commands cut.following) cut.text cut.answered.says cut.answered.requested cut.reports.requested;
         requests_kept = begins_as (kept_of (first ++ last)) _ _ (ap all (sym (append-nil (without_failures (fates_of (first ++ last))))))
-            (requests_both first last old cut.reported (λ s. served reading s (pieces_of input)) (still reading cut.commands cut.following) cut.text cut.answered.says cut.answered.requests_kept cut.reports.requests_kept []);
+            (requests_both first last old cut.reported (λ s. pieces_reply reading s (pieces_of input)) (still reading cut.commands cut.following) cut.text cut.answered.says cut.answered.requests_kept cut.reports.requests_kept []);
       }
 
 pub weaker : (P Q : State → Type 0) → ((state : State) → P state → Q state) → (outcome : Result State StoreFault) → ReturnsUnlessFailed P outcome → ReturnsUnlessFailed Q outcome

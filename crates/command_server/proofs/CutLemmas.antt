@@ -38,8 +38,8 @@ use Rattle.std.specs.Str.Lines.{strip_carriage_return}
 use Rattle.std.proofs.KnownBytes.{Consumes-nil, Consumes-trans, Keeps-refl}
 use Rattle.std.proofs.lemmas.List.Elements.{Contains-append_cases}
 use Rattle.text_lines.specs.Lines.{HasNoLineFeed}
-use Rattle.command_text.specs.Parsing.{requested}
-use Rattle.command_text.specs.Cutting.{announced, ends, pieces_of}
+use Rattle.command_text.specs.Parsing.{parsed_line}
+use Rattle.command_text.specs.Cutting.{announced_len, ends, pieces_of}
 use Rattle.command_text.specs.Laws.{PiecesEnd, PiecesFollow, cut_at, piece_at}
 use Rattle.command_text.specs.declared.parsed_command.ParsedCommand.{ParsedCommand}
 use Rattle.command_server.specs.Input.{
@@ -103,11 +103,11 @@ pub record CutLaws : Type 0 where
   pub none : pieces_of [] ≡ []
 
 nothing_after : CutLaws → (a : ParsedCommand) → piece_at a [] ∷ [] ≡ cut_at a []
-nothing_after laws a = sym (ap (λ ps. record { requested = a; text = take (announced a) [] } ∷ ps) (at (ends (piece_at a []))))
+nothing_after laws a = sym (ap (λ ps. record { requested = a; text = take (announced_len a) [] } ∷ ps) (at (ends (piece_at a []))))
   where
-    at : (b : Bool) → (if b then [] else pieces_of (drop (announced a) [])) ≡ []
+    at : (b : Bool) → (if b then [] else pieces_of (drop (announced_len a) [])) ≡ []
     at true = refl
-    at false = ap pieces_of (drop-nil (announced a)) ∙ laws.none
+    at false = ap pieces_of (drop-nil (announced_len a)) ∙ laws.none
 
 -- the pieces of the rest are those of its first line and of what follows
 pub cut_pieces : CutLaws → (a : ParsedCommand) (bytes rest : List ℕ) → CutsLine a bytes rest → pieces_of bytes ≡ cut_at a rest
@@ -117,13 +117,13 @@ cut_pieces laws a bytes rest c = at c.whole
     at (inl e) = ap pieces_of e ∙ laws.ended c.line rest c.free ∙ ap (λ b. cut_at b rest) (sym c.requests_kept)
     at (inr e) = ap pieces_of e.0 ∙ laws.last c.line c.free e.2 ∙ ap (λ b. piece_at b [] ∷ []) (sym c.requests_kept) ∙ nothing_after laws a ∙ ap (cut_at a) (sym e.1)
 
-feed_cuts : (line : List ℕ) (a : ParsedCommand) → HasNoLineFeed line → a ≡ requested (strip_carriage_return line) → (old new : Option (List ℕ)) → Consumes old new (line ++ 10 ∷ []) → Cuts a old new
+feed_cuts : (line : List ℕ) (a : ParsedCommand) → HasNoLineFeed line → a ≡ parsed_line (strip_carriage_return line) → (old new : Option (List ℕ)) → Consumes old new (line ++ 10 ∷ []) → Cuts a old new
 feed_cuts line a free requests_kept None new moves = tt
 feed_cuts line a free requests_kept (Some xs) None moves = absurd moves
 feed_cuts line a free requests_kept (Some xs) (Some ys) moves = record { line = line; free = free; requests_kept = requests_kept; whole = inl (moves ∙ append_assoc line (10 ∷ []) ys) }
 
 pub part_feed : (old mid new : Option (List ℕ)) (before after : PartialLine) (n : ℕ) (a : ParsedCommand) → IsPartOf old mid before → TakesPart mid new before after (Feed n)
-    → ((line : List ℕ) → IsPartialLine line after → a ≡ requested (strip_carriage_return line)) → Cuts a old new
+    → ((line : List ℕ) → IsPartialLine line after → a ≡ parsed_line (strip_carriage_return line)) → Cuts a old new
 part_feed old mid new before after n a p t requests_kept =
     let line : List ℕ = p.seen ++ t.bytes in
     let moves : Consumes old new (p.seen ++ (t.bytes ++ 10 ∷ [])) = Consumes-trans old mid new p.seen (t.bytes ++ 10 ∷ []) p.moves t.moves in

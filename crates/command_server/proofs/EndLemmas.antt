@@ -4,7 +4,7 @@ use Rattle.std.specs.List.{concat}
 use Rattle.std.proofs.lemmas.List.{append_cancel_left}
 use Rattle.text_lines.specs.Lines.{HasNoLineFeed}
 use Rattle.command_types.specs.declared.commands.Command.{Command}
-use Rattle.command_text.specs.Answering.{Fate, Reply, served}
+use Rattle.command_text.specs.Answering.{Fate, Reply, pieces_reply}
 use Rattle.command_text.specs.Cutting.{pieces_of}
 use Rattle.command_text.specs.Readings.{Reading}
 use Rattle.recover.specs.Sessions.{SessionValue}
@@ -96,7 +96,7 @@ module _ {D : Type 0} (on : sectors.Ghosts D) (reading : Reading) (old new : Ses
     ends : HasNoLineFeed (take cut.part.len cut.last) → ⊥
     ends none = let reported : Some why ≡ None = last.reports ∙ ap failed_answer_in put ∙ stops_without_feed cut.text (take cut.part.len cut.last) none ∙ allows in cc
 
-    says : (later : List Fate) → served reading (as_server_state old (fates_of (cut.answered.acts ++ cut.reports.acts) ++ later)) (pieces_of input)
+    says : (later : List Fate) → pieces_reply reading (as_server_state old (fates_of (cut.answered.acts ++ cut.reports.acts) ++ later)) (pieces_of input)
         ≡ preceded (cut.text ++ cut.last) (executed_of (cut.answered.acts ++ cut.reports.acts)) (still reading cut.later_commands cut.later_following (as_server_state new later))
     says later =
         let first = cut.answered.acts in
@@ -105,7 +105,7 @@ module _ {D : Type 0} (on : sectors.Ghosts D) (reading : Reading) (old new : Ses
         let fates = fates_before first second later in
         let one = cut.answered.says (fates_of second ++ later) in
         let two = cut.reports.says later in
-        ap (λ fates. served reading (as_server_state old fates) (pieces_of input)) fates ∙ one ∙ ap (preceded cut.text (executed_of first)) two
+        ap (λ fates. pieces_reply reading (as_server_state old fates) (pieces_of input)) fates ∙ one ∙ ap (preceded cut.text (executed_of first)) two
         ∙ ap (λ t. made t (executed_of first ++ (executed_of second ++ left.commands)) left) (sym (append_assoc cut.text cut.last left.text))
         ∙ ap (λ cs. made ((cut.text ++ cut.last) ++ left.text) cs left) (sym (append_assoc (executed_of first) (executed_of second) left.commands))
         ∙ ap (λ cs. preceded (cut.text ++ cut.last) cs left) (sym (carried_both first second))
@@ -134,7 +134,7 @@ module _ {D : Type 0} (on : sectors.Ghosts D) (reading : Reading) (old new : Ses
       says = says;
     }
       where
-        reports : (later : List Fate) → Begins cut.text cut.answered.acts (served reading (as_server_state old (fates_of cut.answered.acts ++ later)) (pieces_of input))
+        reports : (later : List Fate) → Begins cut.text cut.answered.acts (pieces_reply reading (as_server_state old (fates_of cut.answered.acts ++ later)) (pieces_of input))
         reports later =
             let said = cut.answered.says later in
             let rest : Reply = still reading cut.commands cut.following (as_server_state cut.reported later) in

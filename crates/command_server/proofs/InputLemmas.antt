@@ -5,7 +5,7 @@ use mathlib.Core.Bool.{true≢false}
 use Rattle.std.proofs.lemmas.Bool.{leb-true, ltb-false, ltb-true}
 use Rattle.std.specs.Str.Lines.{strip_carriage_return}
 use Rattle.text_lines.specs.Words.{words_of}
-use Rattle.command_text.specs.Parsing.{requested, announces_text}
+use Rattle.command_text.specs.Parsing.{parsed_line, announces_text}
 use Rattle.command_text.specs.declared.parsed_command.ParsedCommand.TheVariants.{BadLine, BadText}
 use Rattle.std.proofs.lemmas.List.{take-append-le}
 use Rattle.std.proofs.Math.Seq.{take-append-add}
@@ -75,8 +75,8 @@ stripped_len l = at (slice_index l (length l - 1) == 13)
     at true = let e : length (take (length l - 1) l) ≡ length l - 1 = length-take-le (length l - 1) l (omega arith) in omega (arith, e)
     at false = omega arith
 
-requested_long : (l : List ℕ) (b : Bool) → nat_le (length l) 1024 ≡ false → announces_text (words_of l) ≡ b → requested l ≡ (if b then BadText else BadLine)
-unfolding requested
+requested_long : (l : List ℕ) (b : Bool) → nat_le (length l) 1024 ≡ false → announces_text (words_of l) ≡ b → parsed_line l ≡ (if b then BadText else BadLine)
+unfolding parsed_line
 requested_long l b long e = rw (long, e) refl
 
 is_long : (n : ℕ) → 1024 < n → nat_le n 1024 ≡ false
@@ -87,12 +87,12 @@ is_long n more = at (nat_le n 1024) refl
     at false e = e
 
 -- a line that was kept whole is parsed from the kept bytes
-pub requested_kept : (kept line : List ℕ) → kept ≡ take 1026 line → length kept < 1026 → requested (strip_carriage_return kept) ≡ requested (strip_carriage_return line)
-requested_kept kept line is short = ap (λ l. requested (strip_carriage_return l)) (is ∙ kept_short 1026 line (omega (arith, short, ap length is)))
+pub requested_kept : (kept line : List ℕ) → kept ≡ take 1026 line → length kept < 1026 → parsed_line (strip_carriage_return kept) ≡ parsed_line (strip_carriage_return line)
+requested_kept kept line is short = ap (λ l. parsed_line (strip_carriage_return l)) (is ∙ kept_short 1026 line (omega (arith, short, ap length is)))
 
 -- a line that is too long is bad, and the scan of its first word shows whether it announces a text
 pub requested_too_long : (kept line : List ℕ) (b : Bool) → kept ≡ take 1026 line → 1026 ≤ length kept → b ≡ announces_text (words_of (strip_carriage_return line))
-    → (if b then BadText else BadLine) ≡ requested (strip_carriage_return line)
+    → (if b then BadText else BadLine) ≡ parsed_line (strip_carriage_return line)
 requested_too_long kept line b is long e =
     let more : 1026 ≤ length line = kept_long 1026 line (omega (arith, long, ap length is)) in
     let over : 1024 < length (strip_carriage_return line) = omega (arith, more, stripped_len line) in

@@ -23,7 +23,7 @@ use Rattle.command_text.specs.Answering.{
   adopt,
   adopt_on,
   adopted_unless,
-  answered,
+  answer_reply,
   by_fate,
   question_reply,
   instance_reply,
@@ -70,7 +70,7 @@ use Rattle.command_server.proofs.AttemptLemmas.{requested_nothing, requested_tex
 
 -- ---- the reply of a session that is broken or not
 
-pub when_broken : (s : ServerState) (r : Reply) → s.is_broken ≡ true → unless_broken s r ≡ answered s answer.Broken
+pub when_broken : (s : ServerState) (r : Reply) → s.is_broken ≡ true → unless_broken s r ≡ answer_reply s answer.Broken
 when_broken s r e = rw e refl
 
 pub when_whole : (s : ServerState) (r : Reply) → s.is_broken ≡ false → unless_broken s r ≡ r
@@ -83,7 +83,7 @@ text_acts (Some some) = Text some ∷ []
 
 -- an answer that leaves the session as it is is reported
 pub reports_fate : {D : Type 0} {on : sectors.Ghosts D} (s : SessionValue D) (f : ServerState → Reply) (text : Option Bool) (a : Answer)
-    → ((later : List Fate) → f (as_server_state s (fates_of (text_acts text) ++ later)) ≡ answered (as_server_state s later) a)
+    → ((later : List Fate) → f (as_server_state s (fates_of (text_acts text) ++ later)) ≡ answer_reply (as_server_state s later) a)
     → Reports on s f (line (answer_text a)) s silent
 reports_fate s f None a says = record {
   acts = [];
@@ -108,7 +108,7 @@ reports_fate s f (Some some) a says = record {
 
 -- a text and `ok` are reported
 reports_text_after : {D : Type 0} {on : sectors.Ghosts D} (s : SessionValue D) (f : ServerState → Reply) (made : Option Bool) (text : List ℕ)
-    → ((later : List Fate) → f (as_server_state s (fates_of (text_acts made) ++ later)) ≡ with_text text (answered (as_server_state s later) answer.Ok))
+    → ((later : List Fate) → f (as_server_state s (fates_of (text_acts made) ++ later)) ≡ with_text text (answer_reply (as_server_state s later) answer.Ok))
     → Reports on s f (text ++ line (answer_text answer.Ok)) s silent
 reports_text_after s f None text says = record {
   acts = [];
@@ -130,7 +130,7 @@ reports_text_after s f (Some some) text says = record {
 }
 
 pub reports_text : {D : Type 0} {on : sectors.Ghosts D} (s : SessionValue D) (f : ServerState → Reply) (text : List ℕ)
-    → ((later : List Fate) → f (as_server_state s (Done ∷ later)) ≡ with_text text (answered (as_server_state s later) answer.Ok))
+    → ((later : List Fate) → f (as_server_state s (Done ∷ later)) ≡ with_text text (answer_reply (as_server_state s later) answer.Ok))
     → Reports on s f (text ++ line (answer_text answer.Ok)) s silent
 reports_text s f text says = reports_text_after s f (Some true) text says
 
@@ -141,10 +141,10 @@ reports_stated s f text says = reports_text_after s f None (line text) says
 
 -- ---- a session without a job
 
-pub no_job : (g : ServerState → State → Reply) (s : ServerState) (a : Answer) → ((t : ServerState) → g t Empty ≡ answered t (answer.Refused core.NoInstance)) → HasNoJob s.is_broken s.state a
-    → unless_broken s (g s s.state) ≡ answered s a
-no_job g s a empty (inl broken) = when_broken s (g s s.state) broken.0 ∙ ap (answered s) (sym broken.1)
-no_job g s a empty (inr none) = when_whole s (g s s.state) none.0 ∙ ap (g s) none.1 ∙ empty s ∙ ap (answered s) (sym none.2)
+pub no_job : (g : ServerState → State → Reply) (s : ServerState) (a : Answer) → ((t : ServerState) → g t Empty ≡ answer_reply t (answer.Refused core.NoInstance)) → HasNoJob s.is_broken s.state a
+    → unless_broken s (g s s.state) ≡ answer_reply s a
+no_job g s a empty (inl broken) = when_broken s (g s s.state) broken.0 ∙ ap (answer_reply s) (sym broken.1)
+no_job g s a empty (inr none) = when_whole s (g s s.state) none.0 ∙ ap (g s) none.1 ∙ empty s ∙ ap (answer_reply s) (sym none.2)
 
 pub with_job : (g : ServerState → State → Reply) (s : ServerState) (j : JobValue) → s.is_broken ≡ false → s.state ≡ Loaded j → unless_broken s (g s s.state) ≡ g s (Loaded j)
 with_job g s j whole is = when_whole s (g s s.state) whole ∙ ap (g s) is
@@ -161,7 +161,7 @@ load_accepted (Loaded j) p seed = refl
 
 by_fates : (state : State) (b : Bool) (fates : List Fate) (p : Instance) (seed : ℕ)
     → load (next_fate fates) (record { state = state; is_broken = b; fates = fates }) seed (Ok p)
-    ≡ by_fate (next_fate fates) (after_attempt (record { state = state; is_broken = b; fates = fates })) (command.Load p seed) (λ t. answered t answer.Ok)
+    ≡ by_fate (next_fate fates) (after_attempt (record { state = state; is_broken = b; fates = fates })) (command.Load p seed) (λ t. answer_reply t answer.Ok)
 by_fates state b [] p seed = refl
 by_fates state b (Done ∷ fates) p seed = refl
 by_fates state b (NoMemory ∷ fates) p seed = refl
@@ -170,7 +170,7 @@ by_fates state b (Failed ∷ fates) p seed = refl
 
 -- if a text has a problem, the reply is that to the operation
 load_is : (s : ServerState) (p : Instance) (seed : ℕ) → s.is_broken ≡ false → load (next_fate s.fates) s seed (Ok p) ≡ plain s (command.Load p seed)
-load_is s p seed e = by_fates s.state s.is_broken s.fates p seed ∙ sym (carried_tried s (command.Load p seed) (λ t. answered t answer.Ok) e (load_accepted s.state p seed))
+load_is s p seed e = by_fates s.state s.is_broken s.fates p seed ∙ sym (carried_tried s (command.Load p seed) (λ t. answer_reply t answer.Ok) e (load_accepted s.state p seed))
 
 pub load_spelled : {D : Type 0} {on : sectors.Ghosts D} (old new : SessionValue D) (p : Instance) (seed : ℕ) (text : List ℕ) (found : Result Instance ReadFault) → old.is_broken ≡ false → Ok p ≡ found
     → Reports on old (λ s. plain s (command.Load p seed)) text new silent → Reports on old (load_reply seed found) text new silent
@@ -214,7 +214,7 @@ loaded_ok old new p seed text found e (inr none) leads = absurd cc
 
 -- ---- a text to print
 
-pub reports_none : {D : Type 0} {on : sectors.Ghosts D} (g : ServerState → State → Reply) (s : SessionValue D) (a : Answer) → ((t : ServerState) → g t Empty ≡ answered t (answer.Refused core.NoInstance))
+pub reports_none : {D : Type 0} {on : sectors.Ghosts D} (g : ServerState → State → Reply) (s : SessionValue D) (a : Answer) → ((t : ServerState) → g t Empty ≡ answer_reply t (answer.Refused core.NoInstance))
     → HasNoJob s.is_broken s.state a → Reports on s (λ t. unless_broken t (g t t.state)) (line (answer_text a)) s silent
 reports_none g s a empty none = reports_fate s (λ t. unless_broken t (g t t.state)) None a (λ later. no_job g (as_server_state s later) a empty none)
 
@@ -230,7 +230,7 @@ module _ {D : Type 0} {on : sectors.Ghosts D} (g : ServerState → State → Rep
   job_unmade text reports =
       reports_fate s (says g) (Some false) (answer.Refused core.OutOfMemory) (λ later. with_job g (as_server_state s (NoMemory ∷ later)) j whole is ∙ reports (as_server_state s (NoMemory ∷ later)))
 
-  pub job_refuses : (a : Answer) → ((t : ServerState) → g t (Loaded j) ≡ answered t a) → Reports on s (says g) (line (answer_text a)) s silent
+  pub job_refuses : (a : Answer) → ((t : ServerState) → g t (Loaded j) ≡ answer_reply t a) → Reports on s (says g) (line (answer_text a)) s silent
   job_refuses a reports = reports_fate s (says g) None a (λ later. with_job g (as_server_state s later) j whole is ∙ reports (as_server_state s later))
 
   pub job_stated : (text : List ℕ) → ((t : ServerState) → g t (Loaded j) ≡ line_then_ok t text) → Reports on s (says g) (line text ++ line (answer_text answer.Ok)) s silent
@@ -248,8 +248,8 @@ refused_stays : {D : Type 0} (on : sectors.Ghosts D) (old new : SessionValue D) 
     → Reports on old (λ s. plain s c) text new silent → (text ≡ line (answer_text (answer.Refused r))) × (new ≡ old)
 refused_stays on old new c r text whole refused p =
     let a = answer.Refused r in
-    let says : answered (as_server_state old (fates_of p.acts ++ [])) a ≡ preceded text (executed_of p.acts) (silent (as_server_state new [])) =
-    sym (carried_refused (as_server_state old (fates_of p.acts ++ [])) c (λ t. answered t answer.Ok) r whole refused) ∙ p.says [] in
+    let says : answer_reply (as_server_state old (fates_of p.acts ++ [])) a ≡ preceded text (executed_of p.acts) (silent (as_server_state new [])) =
+    sym (carried_refused (as_server_state old (fates_of p.acts ++ [])) c (λ t. answer_reply t answer.Ok) r whole refused) ∙ p.says [] in
     let text_then_ok : line (answer_text a) ≡ text ++ [] = ap (λ (r : Reply). r.text) says in
     let fates : fates_of p.acts ++ [] ≡ [] = ap (λ (r : Reply). r.left.fates) says in
     let none : p.acts ≡ [] = no_try p.acts p.requested.attempts (sym (append-nil (fates_of p.acts)) ∙ fates) in
@@ -259,13 +259,13 @@ module _ {D : Type 0} (reading : Reading) (bytes : List ℕ) (s : SessionValue D
   -- if the state accepts a plan, the reply is that to the operation
   accepted : (plan : Plan) → refusal s.state (command.Adopt plan) ≡ None → (fates : List Fate)
       → adopt (next_fate fates) (as_server_state s fates) (Ok plan) ≡ plain (as_server_state s fates) (command.Adopt plan)
-  accepted plan none fates = by_fates fates ∙ sym (carried_tried (as_server_state s fates) (command.Adopt plan) (λ t. answered t answer.Ok) whole none)
+  accepted plan none fates = by_fates fates ∙ sym (carried_tried (as_server_state s fates) (command.Adopt plan) (λ t. answer_reply t answer.Ok) whole none)
     where
       unless : (fates : List Fate) → adopted_unless (refusal s.state (command.Adopt plan)) (as_server_state s fates) plan
-          ≡ by_fate (next_fate fates) (after_attempt (as_server_state s fates)) (command.Adopt plan) (λ t. answered t answer.Ok)
+          ≡ by_fate (next_fate fates) (after_attempt (as_server_state s fates)) (command.Adopt plan) (λ t. answer_reply t answer.Ok)
       unless fates = ap (λ r. adopted_unless r (as_server_state s fates) plan) none
 
-      by_fates : (fates : List Fate) → adopt (next_fate fates) (as_server_state s fates) (Ok plan) ≡ by_fate (next_fate fates) (after_attempt (as_server_state s fates)) (command.Adopt plan) (λ t. answered t answer.Ok)
+      by_fates : (fates : List Fate) → adopt (next_fate fates) (as_server_state s fates) (Ok plan) ≡ by_fate (next_fate fates) (after_attempt (as_server_state s fates)) (command.Adopt plan) (λ t. answer_reply t answer.Ok)
       by_fates [] = unless []
       by_fates (Done ∷ fates) = unless (Done ∷ fates)
       by_fates (NoMemory ∷ fates) = refl
@@ -311,7 +311,7 @@ module _ {D : Type 0} {on : sectors.Ghosts D} (reading : Reading) (bytes : List 
 pub planned_is : (j : JobValue) → (unplanned_count j.problem j.plan == 0) ≡ true → (t : ServerState) → print_reply t (Loaded j) ≡ text_then_ok (next_fate t.fates) (after_attempt t) (print_text j)
 planned_is j e t = rw e refl
 
-pub unplanned_is : (j : JobValue) → (unplanned_count j.problem j.plan == 0) ≡ false → (t : ServerState) → print_reply t (Loaded j) ≡ answered t answer.Unplanned
+pub unplanned_is : (j : JobValue) → (unplanned_count j.problem j.plan == 0) ≡ false → (t : ServerState) → print_reply t (Loaded j) ≡ answer_reply t answer.Unplanned
 unplanned_is j e t = rw e refl
 
 pub by_refusal : (j : JobValue) (q : Question) (r : Option Refusal) → question_refusal j q ≡ r → (t : ServerState) → question_reply q t (Loaded j) ≡ text_unless r t (question_text j q)
@@ -320,7 +320,7 @@ by_refusal j q r e t = ap (λ o. text_unless o t (question_text j q)) e
 pub sayable_is : (j : JobValue) → has_format j.problem ≡ true → (t : ServerState) → instance_reply t (Loaded j) ≡ text_then_ok (next_fate t.fates) (after_attempt t) (instance_text j.problem)
 sayable_is j e t = rw e refl
 
-pub unsayable_is : (j : JobValue) → has_format j.problem ≡ false → (t : ServerState) → instance_reply t (Loaded j) ≡ answered t answer.NoFormat
+pub unsayable_is : (j : JobValue) → has_format j.problem ≡ false → (t : ServerState) → instance_reply t (Loaded j) ≡ answer_reply t answer.NoFormat
 unsayable_is j e t = rw e refl
 
 -- if the text was made or memory ran out, the format can express the problem; if the result is `NoFormat`, it

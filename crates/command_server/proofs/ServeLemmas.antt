@@ -14,10 +14,10 @@ use Rattle.command_text.specs.Answering.{
   Failed,
   Reply,
   ServerState,
-  answered,
+  answer_reply,
   by_fate,
-  executed,
-  executed_all,
+  operation_reply,
+  operations_reply,
   commands_of,
   steps_or_refusal,
   next_fate,
@@ -198,8 +198,8 @@ serves_further {a = a} {b = b} {c = c} {f = f} {g = g} {h = h} {t = t} {x = x} {
     serves_on a b c f g h x y z so_far (serves_reported b c g h t y z reports flushed_stream)
 
 pub answers_after : {D T E : Type 0} {on : sectors.Ghosts D} {a b c : SessionValue D} {f : ServerState → Reply} {t : List ℕ} {x y : Stream} (r : Result T E)
-    (later : Option (List Command)) (commands : List Command) (z : Stream) → Serves on a f x y b (λ s. executed_all s commands)
-    → Reports on b (λ s. executed_all s commands) t c (still_executed later) → WritesAndFlushes y z r (on.calls c.device) t → Answers on r a f x z c (still_executed later)
+    (later : Option (List Command)) (commands : List Command) (z : Stream) → Serves on a f x y b (λ s. operations_reply s commands)
+    → Reports on b (λ s. operations_reply s commands) t c (still_executed later) → WritesAndFlushes y z r (on.calls c.device) t → Answers on r a f x z c (still_executed later)
 answers_after (Ok done) later commands z so_far reports flushed_stream = serves_further so_far reports flushed_stream
 answers_after {b = b} {t = t} {y = y} (Err fault) later commands z so_far reports part = inr (record {
   commands = commands;
@@ -224,7 +224,7 @@ answers_as on (Err fault) a b f f' g x y same (inr p) = inr (record {
   commands = p.commands;
   reported = p.reported;
   text = p.text;
-  answered = leads_as a p.reported f f' (λ s. executed_all s p.commands) p.text same p.answered;
+  answered = leads_as a p.reported f f' (λ s. operations_reply s p.commands) p.text same p.answered;
   last = p.last;
   later = p.later;
   reports = p.reports;
@@ -235,15 +235,15 @@ answers_as on (Err fault) a b f f' g x y same (inr p) = inr (record {
 
 -- ---- a reply that consists of one answer
 
-pub answered_is : (s : ServerState) (a : Answer) → answered s a ≡ preceded (line (answer_text a)) [] (silent s)
+pub answered_is : (s : ServerState) (a : Answer) → answer_reply s a ≡ preceded (line (answer_text a)) [] (silent s)
 answered_is s a = ap (λ (x : List ℕ). record { text = x; commands = []; left = s }) (sym (append-nil (line (answer_text a))))
 
-pub reports_answer : {D : Type 0} {on : sectors.Ghosts D} (s : SessionValue D) (a : Answer) → Reports on s (λ t. answered t a) (line (answer_text a)) s silent
+pub reports_answer : {D : Type 0} {on : sectors.Ghosts D} (s : SessionValue D) (a : Answer) → Reports on s (λ t. answer_reply t a) (line (answer_text a)) s silent
 reports_answer s a = record {
   acts = [];
   run = refl;
   says = λ later. answered_is (as_server_state s later) a;
-  requested = requested_nothing s (λ t. answered t a);
+  requested = requested_nothing s (λ t. answer_reply t a);
   requests_kept = λ later. begins_at_all _;
   state = refl;
   few = omega arith;
@@ -251,16 +251,16 @@ reports_answer s a = record {
 
 -- ---- an operation, by its outcome
 
-carried_broken : (s : ServerState) (c : Command) (done : ServerState → Reply) → s.is_broken ≡ true → executed s c done ≡ answered s answer.Broken
-unfolding executed
+carried_broken : (s : ServerState) (c : Command) (done : ServerState → Reply) → s.is_broken ≡ true → operation_reply s c done ≡ answer_reply s answer.Broken
+unfolding operation_reply
 carried_broken s c done e = rw e refl
 
-pub carried_refused : (s : ServerState) (c : Command) (done : ServerState → Reply) (r : Refusal) → s.is_broken ≡ false → refusal s.state c ≡ Some r → executed s c done ≡ answered s (answer.Refused r)
-unfolding executed
+pub carried_refused : (s : ServerState) (c : Command) (done : ServerState → Reply) (r : Refusal) → s.is_broken ≡ false → refusal s.state c ≡ Some r → operation_reply s c done ≡ answer_reply s (answer.Refused r)
+unfolding operation_reply
 carried_refused s c done r e f = rw (e, f) refl
 
-pub carried_tried : (s : ServerState) (c : Command) (done : ServerState → Reply) → s.is_broken ≡ false → refusal s.state c ≡ None → executed s c done ≡ by_fate (next_fate s.fates) (after_attempt s) c done
-unfolding executed
+pub carried_tried : (s : ServerState) (c : Command) (done : ServerState → Reply) → s.is_broken ≡ false → refusal s.state c ≡ None → operation_reply s c done ≡ by_fate (next_fate s.fates) (after_attempt s) c done
+unfolding operation_reply
 carried_tried s c done e f = rw (e, f) refl
 
 abbrev first_cause : Bool → Option Refusal → Option Denial → Option Denial
@@ -290,16 +290,16 @@ spent_only false Spent h = absurd h
 
 module _ {D : Type 0} (on : sectors.Ghosts D) (old new : SessionValue D) (command : Command) (n : ℕ) where
   -- if the operation was executed, its reply continues
-  pub carried_on : (done : ServerState → Reply) (x : Unit {0}) → IsAppliedOn on old command (answers_so (Ok x) n) new → Reports on old (λ s. executed s command done) [] new done
+  pub carried_on : (done : ServerState → Reply) (x : Unit {0}) → IsAppliedOn on old command (answers_so (Ok x) n) new → Reports on old (λ s. operation_reply s command done) [] new done
   carried_on done x applied =
       let free = not_denied old new command old.is_broken (refusal old.state command) (spent_denial old.place command) x applied.answer in
-      let says : (later : List Fate) → executed (as_server_state old (Done ∷ later)) command done ≡ preceded [] (command ∷ []) (done (as_server_state new later)) =
+      let says : (later : List Fate) → operation_reply (as_server_state old (Done ∷ later)) command done ≡ preceded [] (command ∷ []) (done (as_server_state new later)) =
       λ later. carried_tried (as_server_state old (Done ∷ later)) command done free.0 free.1 ∙ ap (λ s. with_command command (done s)) (done_is old new command applied.makes free.0 later) in
       record {
         acts = Applied command (answers_so (Ok x) n) ∷ [];
         run = (new, applied, refl);
         says = says;
-        requested = requested_command old (λ s. executed s command done) command (answers_so (Ok x) n) (Done, refl)
+        requested = requested_command old (λ s. operation_reply s command done) command (answers_so (Ok x) n) (Done, refl)
             (λ later. record { rest = (done (as_server_state new later)).commands; whole = ap (λ (r : Reply). r.commands) (says later) });
         requests_kept = λ later. record { rest = (done (as_server_state new later)).commands; whole = ap (λ (r : Reply). r.commands) (says later) };
         state = applied.makes.state;
@@ -308,9 +308,9 @@ module _ {D : Type 0} (on : sectors.Ghosts D) (old new : SessionValue D) (comman
 
   -- the operation is requested if its attempt succeeds
   requested_once : (done : ServerState → Reply) (why : Denial) → old.is_broken ≡ false → refusal old.state command ≡ None → IsAttempt (Applied command (answers_so (Err why) n))
-      → AreRequested old (λ s. executed s command done) (Applied command (answers_so (Err why) n) ∷ [])
+      → AreRequested old (λ s. operation_reply s command done) (Applied command (answers_so (Err why) n) ∷ [])
   requested_once done why e r is_try =
-      requested_command old (λ s. executed s command done) command (answers_so (Err why) n) is_try
+      requested_command old (λ s. operation_reply s command done) command (answers_so (Err why) n) is_try
       (λ later. record {
         rest = (done (record (after_attempt (as_server_state old (Done ∷ later))) { state = effect old.state command })).commands;
         whole = ap (λ (r : Reply). r.commands) (carried_tried (as_server_state old (Done ∷ later)) command done e r);
@@ -319,7 +319,7 @@ module _ {D : Type 0} (on : sectors.Ghosts D) (old new : SessionValue D) (comman
   -- the case of an attempt that leaves the session as it was
   ends_at : (f : ServerState → Reply) (a : Answer) (why : Denial) → IsAppliedOn on old command (answers_so (Err why) n) new → kept_of (Applied command (answers_so (Err why) n) ∷ []) ≡ [] → new ≡ old
       → AreRequested old f (Applied command (answers_so (Err why) n) ∷ [])
-      → ((later : List Fate) → f (as_server_state old (fates_of (Applied command (answers_so (Err why) n) ∷ []) ++ later)) ≡ answered (as_server_state old later) a)
+      → ((later : List Fate) → f (as_server_state old (fates_of (Applied command (answers_so (Err why) n) ∷ []) ++ later)) ≡ answer_reply (as_server_state old later) a)
       → Reports on old f (line (answer_text a)) new silent
   ends_at f a why applied none same requested says = record {
     acts = Applied command (answers_so (Err why) n) ∷ [];
@@ -334,7 +334,7 @@ module _ {D : Type 0} (on : sectors.Ghosts D) (old new : SessionValue D) (comman
   }
 
   -- the case of an operation that is not an attempt
-  stays_at : (f : ServerState → Reply) (a : Answer) → new ≡ old → ((later : List Fate) → f (as_server_state old later) ≡ answered (as_server_state old later) a) → Reports on old f (line (answer_text a)) new silent
+  stays_at : (f : ServerState → Reply) (a : Answer) → new ≡ old → ((later : List Fate) → f (as_server_state old later) ≡ answer_reply (as_server_state old later) a) → Reports on old f (line (answer_text a)) new silent
   stays_at f a same says = record {
     acts = [];
     run = same;
@@ -346,21 +346,21 @@ module _ {D : Type 0} (on : sectors.Ghosts D) (old new : SessionValue D) (comman
   }
 
   pub carried_off : (done : ServerState → Reply) (d : Denial) → IsAppliedOn on old command (answers_so (Err d) n) new
-      → Reports on old (λ s. executed s command done) (line (answer_text (answer_to_denial d))) new silent
+      → Reports on old (λ s. operation_reply s command done) (line (answer_text (answer_to_denial d))) new silent
   carried_off done d applied = off old.is_broken refl (refusal old.state command) refl d applied.answer applied
     where
       by_spent : (d : Denial) → old.is_broken ≡ false → refusal old.state command ≡ None → (d ≡ Spent) ⊎ ((d ≡ OutOfMemory) ⊎ (d ≡ DeviceFault))
-          → IsAppliedOn on old command (answers_so (Err d) n) new → Reports on old (λ s. executed s command done) (line (answer_text (answer_to_denial d))) new silent
+          → IsAppliedOn on old command (answers_so (Err d) n) new → Reports on old (λ s. operation_reply s command done) (line (answer_text (answer_to_denial d))) new silent
       by_spent d e r (inl is) applied =
-          subst (λ x. IsAppliedOn on old command (answers_so (Err x) n) new → Reports on old (λ s. executed s command done) (line (answer_text (answer_to_denial x))) new silent) (sym is)
-          (λ applied. ends_at (λ s. executed s command done) answer.Spent Spent applied refl applied.makes (requested_once done Spent e r (SpentFate, refl))
+          subst (λ x. IsAppliedOn on old command (answers_so (Err x) n) new → Reports on old (λ s. operation_reply s command done) (line (answer_text (answer_to_denial x))) new silent) (sym is)
+          (λ applied. ends_at (λ s. operation_reply s command done) answer.Spent Spent applied refl applied.makes (requested_once done Spent e r (SpentFate, refl))
           (λ later. carried_tried (as_server_state old (SpentFate ∷ later)) command done e r)) applied
       by_spent d e r (inr (inl is)) applied =
-          subst (λ x. IsAppliedOn on old command (answers_so (Err x) n) new → Reports on old (λ s. executed s command done) (line (answer_text (answer_to_denial x))) new silent) (sym is)
-          (λ applied. ends_at (λ s. executed s command done) (answer.Refused core.OutOfMemory) OutOfMemory applied refl applied.makes
+          subst (λ x. IsAppliedOn on old command (answers_so (Err x) n) new → Reports on old (λ s. operation_reply s command done) (line (answer_text (answer_to_denial x))) new silent) (sym is)
+          (λ applied. ends_at (λ s. operation_reply s command done) (answer.Refused core.OutOfMemory) OutOfMemory applied refl applied.makes
           (requested_once done OutOfMemory e r (NoMemory, refl)) (λ later. carried_tried (as_server_state old (NoMemory ∷ later)) command done e r)) applied
       by_spent d e r (inr (inr is)) applied =
-          subst (λ x. IsAppliedOn on old command (answers_so (Err x) n) new → Reports on old (λ s. executed s command done) (line (answer_text (answer_to_denial x))) new silent) (sym is)
+          subst (λ x. IsAppliedOn on old command (answers_so (Err x) n) new → Reports on old (λ s. operation_reply s command done) (line (answer_text (answer_to_denial x))) new silent) (sym is)
           (λ (applied : IsAppliedOn on old command (answers_so (Err DeviceFault) n) new).
           let cut : HasFailedDevice old command new = applied.makes in record {
             acts = Applied command (answers_so (Err DeviceFault) n) ∷ [];
@@ -382,15 +382,15 @@ module _ {D : Type 0} (on : sectors.Ghosts D) (old new : SessionValue D) (comman
 
       off : (b : Bool) → old.is_broken ≡ b → (r : Option Refusal) → refusal old.state command ≡ r → (d : Denial)
           → IsAnswer {T = Unit {0}} (first_cause b r (spent_denial old.place command)) (Err d) → IsAppliedOn on old command (answers_so (Err d) n) new
-          → Reports on old (λ s. executed s command done) (line (answer_text (answer_to_denial d))) new silent
+          → Reports on old (λ s. operation_reply s command done) (line (answer_text (answer_to_denial d))) new silent
       off true e r f' d h applied =
           let is : d ≡ Broken = cc in
-          subst (λ x. IsAppliedOn on old command (answers_so (Err x) n) new → Reports on old (λ s. executed s command done) (line (answer_text (answer_to_denial x))) new silent) (sym is)
-          (λ applied. stays_at (λ s. executed s command done) answer.Broken applied.makes (λ later. carried_broken (as_server_state old later) command done e)) applied
+          subst (λ x. IsAppliedOn on old command (answers_so (Err x) n) new → Reports on old (λ s. operation_reply s command done) (line (answer_text (answer_to_denial x))) new silent) (sym is)
+          (λ applied. stays_at (λ s. operation_reply s command done) answer.Broken applied.makes (λ later. carried_broken (as_server_state old later) command done e)) applied
       off false e (Some r) f' d h applied =
           let is : d ≡ Core r = cc in
-          subst (λ x. IsAppliedOn on old command (answers_so (Err x) n) new → Reports on old (λ s. executed s command done) (line (answer_text (answer_to_denial x))) new silent) (sym is)
-          (λ applied. stays_at (λ s. executed s command done) (answer.Refused r) applied.makes (λ later. carried_refused (as_server_state old later) command done r e f')) applied
+          subst (λ x. IsAppliedOn on old command (answers_so (Err x) n) new → Reports on old (λ s. operation_reply s command done) (line (answer_text (answer_to_denial x))) new silent) (sym is)
+          (λ applied. stays_at (λ s. operation_reply s command done) (answer.Refused r) applied.makes (λ later. carried_refused (as_server_state old later) command done r e f')) applied
       off false e None f' d h applied = by_spent d e f' (spent_only _ d h) applied
 
 -- ---- the results of operations, in the form that calls return
@@ -399,41 +399,41 @@ module _ {D : Type 0} (on : sectors.Ghosts D) (old new : SessionValue D) (comman
   answered_so : (answer : Result (Unit {0}) Denial) → reply.answer ≡ answer → IsAppliedOn on old command (answers_so answer reply.calls) new
   answered_so answer e = subst (λ a. IsAppliedOn on old command (answers_so a reply.calls) new) e applied
 
-  pub remaining_reply : (done : ServerState → Reply) (x : Unit {0}) → reply.answer ≡ Ok x → Reports on old (λ s. executed s command done) [] new done
+  pub remaining_reply : (done : ServerState → Reply) (x : Unit {0}) → reply.answer ≡ Ok x → Reports on old (λ s. operation_reply s command done) [] new done
   remaining_reply done x e = carried_on on old new command reply.calls done x (answered_so (Ok x) e)
 
-  pub ends_with : (done : ServerState → Reply) (d : Denial) → reply.answer ≡ Err d → Reports on old (λ s. executed s command done) (line (answer_text (answer_to_denial d))) new silent
+  pub ends_with : (done : ServerState → Reply) (d : Denial) → reply.answer ≡ Err d → Reports on old (λ s. operation_reply s command done) (line (answer_text (answer_to_denial d))) new silent
   ends_with done d e = carried_off on old new command reply.calls done d (answered_so (Err d) e)
 
   pub plain_ok : (x : Unit {0}) → reply.answer ≡ Ok x → Reports on old (λ s. plain s command) (line (answer_text answer.Ok)) new silent
   plain_ok x e =
-      let p = remaining_reply (λ s. answered s answer.Ok) x e in
+      let p = remaining_reply (λ s. answer_reply s answer.Ok) x e in
       record {
         acts = p.acts;
         run = p.run;
         says = λ later. p.says later ∙ ap (preceded [] (executed_of p.acts)) (answered_is (as_server_state new later) answer.Ok);
-        requested = requested_as old (λ s. executed s command (λ t. answered t answer.Ok)) (λ s. plain s command) p.acts (λ fates. refl) p.requested;
+        requested = requested_as old (λ s. operation_reply s command (λ t. answer_reply t answer.Ok)) (λ s. plain s command) p.acts (λ fates. refl) p.requested;
         requests_kept = p.requests_kept;
         state = p.state;
         few = p.few;
       }
 
   pub plain_err : (d : Denial) → reply.answer ≡ Err d → Reports on old (λ s. plain s command) (line (answer_text (answer_to_denial d))) new silent
-  plain_err d e = ends_with (λ s. answered s answer.Ok) d e
+  plain_err d e = ends_with (λ s. answer_reply s answer.Ok) d e
 
 -- an answer that leaves the session as it is is reported
 pub reports_same : {D : Type 0} {on : sectors.Ghosts D} (s : SessionValue D) (f : ServerState → Reply) (a : Answer)
-    → ((fates : List Fate) → f (as_server_state s fates) ≡ answered (as_server_state s fates) a) → Reports on s f (line (answer_text a)) s silent
-reports_same s f a same = reports_as s s (λ t. answered t a) f silent (line (answer_text a)) same (reports_answer s a)
+    → ((fates : List Fate) → f (as_server_state s fates) ≡ answer_reply (as_server_state s fates) a) → Reports on s f (line (answer_text a)) s silent
+reports_same s f a same = reports_as s s (λ t. answer_reply t a) f silent (line (answer_text a)) same (reports_answer s a)
 
 -- ---- steps
 
-carried_cons : (s : ServerState) (c : Command) (cs : List Command) → executed_all s (c ∷ cs) ≡ executed s c (λ t. with_text (printed_after c t.state) (executed_all t cs))
-unfolding executed_all
+carried_cons : (s : ServerState) (c : Command) (cs : List Command) → operations_reply s (c ∷ cs) ≡ operation_reply s c (λ t. with_text (printed_after c t.state) (operations_reply t cs))
+unfolding operations_reply
 carried_cons s c cs = refl
 
-carried_none : (s : ServerState) → executed_all s [] ≡ answered s answer.Ok
-unfolding executed_all
+carried_none : (s : ServerState) → operations_reply s [] ≡ answer_reply s answer.Ok
+unfolding operations_reply
 carried_none s = refl
 
 -- after an operation is executed, the state is its effect
@@ -443,11 +443,11 @@ state_done on old new command reply x applied e = (answered_so on old new comman
 
 -- if an operation was executed and then reported, the steps continue
 pub next_done : {D : Type 0} {on : sectors.Ghosts D} (old mid : SessionValue D) (command : Command) (all rest : List Command) (reply : SessionReply) (x : Unit {0}) → all ≡ command ∷ rest
-    → IsAppliedOn on old command reply mid → reply.answer ≡ Ok x → Reports on old (λ s. executed_all s all) (printed_after command mid.state) mid (λ s. executed_all s rest)
+    → IsAppliedOn on old command reply mid → reply.answer ≡ Ok x → Reports on old (λ s. operations_reply s all) (printed_after command mid.state) mid (λ s. operations_reply s rest)
 next_done {on = on} old mid command all rest reply x is applied ok =
-    let done : ServerState → Reply = λ t. with_text (printed_after command t.state) (executed_all t rest) in
-    let p : Reports on old (λ s. executed_all s all) [] mid done = reports_as old mid (λ s. executed s command done) (λ s. executed_all s all) done []
-    (λ fates. ap (executed_all (as_server_state old fates)) is ∙ carried_cons (as_server_state old fates) command rest) (remaining_reply on old mid command reply applied done x ok) in
+    let done : ServerState → Reply = λ t. with_text (printed_after command t.state) (operations_reply t rest) in
+    let p : Reports on old (λ s. operations_reply s all) [] mid done = reports_as old mid (λ s. operation_reply s command done) (λ s. operations_reply s all) done []
+    (λ fates. ap (operations_reply (as_server_state old fates)) is ∙ carried_cons (as_server_state old fates) command rest) (remaining_reply on old mid command reply applied done x ok) in
     record { acts = p.acts; run = p.run; says = λ later. p.says later; requested = p.requested; requests_kept = p.requests_kept; state = p.state; few = p.few }
 
 -- the remaining steps may be stated for an equal state
@@ -459,45 +459,45 @@ module _ {D : Type 0} {on : sectors.Ghosts D} {state : State} (old mid : Session
     (first : commands_of steps state ≡ command ∷ commands_of rest (effect state command)) (applied : IsAppliedOn on old command reply mid) where
   -- if the first operation of the steps was executed and its progress reported, the steps continue
   pub step_done : (progress : Progress) (x : Unit {0}) → progress ≡ progress_after command → reply.answer ≡ Ok x
-      → Reports on old (λ s. executed_all s (commands_of steps old.state)) (progress_of progress mid) mid (λ s. executed_all s (commands_of rest mid.state))
+      → Reports on old (λ s. operations_reply s (commands_of steps old.state)) (progress_of progress mid) mid (λ s. operations_reply s (commands_of rest mid.state))
   step_done progress x reported ok =
       let all : List Command = commands_of steps old.state in
       let left : mid.state ≡ effect old.state command = state_done on old mid command reply x applied ok in
       let text : printed_after command mid.state ≡ progress_of progress mid = ap (λ (p : Progress). progress_text p mid.state) (sym reported) in
       let reports = next_done old mid command all (commands_of rest (effect old.state command)) reply x (follows_as steps rest command same first) applied ok in
-      let here : Reports on old (λ s. executed_all s all) (printed_after command mid.state) mid (λ s. executed_all s (commands_of rest mid.state)) =
-      subst (λ (s : State). Reports on old (λ t. executed_all t all) (printed_after command mid.state) mid (λ t. executed_all t (commands_of rest s))) (sym left) reports in
-      subst (λ (t : List ℕ). Reports on old (λ s. executed_all s all) t mid (λ s. executed_all s (commands_of rest mid.state))) text here
+      let here : Reports on old (λ s. operations_reply s all) (printed_after command mid.state) mid (λ s. operations_reply s (commands_of rest mid.state)) =
+      subst (λ (s : State). Reports on old (λ t. operations_reply t all) (printed_after command mid.state) mid (λ t. operations_reply t (commands_of rest s))) (sym left) reports in
+      subst (λ (t : List ℕ). Reports on old (λ s. operations_reply s all) t mid (λ s. operations_reply s (commands_of rest mid.state))) text here
 
   -- if the operation was denied, its answer is reported
-  pub step_denied : (a : Answer) (d : Denial) → a ≡ answer_to_denial d → reply.answer ≡ Err d → Reports on old (λ s. executed_all s (commands_of steps old.state)) (line (answer_text a)) mid silent
+  pub step_denied : (a : Answer) (d : Denial) → a ≡ answer_to_denial d → reply.answer ≡ Err d → Reports on old (λ s. operations_reply s (commands_of steps old.state)) (line (answer_text a)) mid silent
   step_denied a d reported err =
       let all : List Command = commands_of steps old.state in
-      let done : ServerState → Reply = λ t. with_text (printed_after command t.state) (executed_all t (commands_of rest (effect old.state command))) in
+      let done : ServerState → Reply = λ t. with_text (printed_after command t.state) (operations_reply t (commands_of rest (effect old.state command))) in
       let is : all ≡ command ∷ commands_of rest (effect old.state command) = follows_as steps rest command same first in
-      subst (λ b. Reports on old (λ s. executed_all s all) (line (answer_text b)) mid silent) (sym reported)
-      (reports_as old mid (λ s. executed s command done) (λ s. executed_all s all) silent (line (answer_text (answer_to_denial d)))
-      (λ fates. ap (executed_all (as_server_state old fates)) is ∙ carried_cons (as_server_state old fates) command (commands_of rest (effect old.state command)))
+      subst (λ b. Reports on old (λ s. operations_reply s all) (line (answer_text b)) mid silent) (sym reported)
+      (reports_as old mid (λ s. operation_reply s command done) (λ s. operations_reply s all) silent (line (answer_text (answer_to_denial d)))
+      (λ fates. ap (operations_reply (as_server_state old fates)) is ∙ carried_cons (as_server_state old fates) command (commands_of rest (effect old.state command)))
       (ends_with on old mid command reply applied done d err))
 
 -- once all operations are executed, `ok` is reported
-pub all_done : {D : Type 0} {on : sectors.Ghosts D} (s : SessionValue D) (all : List Command) → all ≡ [] → Reports on s (λ t. executed_all t all) (line (answer_text answer.Ok)) s silent
+pub all_done : {D : Type 0} {on : sectors.Ghosts D} (s : SessionValue D) (all : List Command) → all ≡ [] → Reports on s (λ t. operations_reply t all) (line (answer_text answer.Ok)) s silent
 all_done {on = on} s all none =
-    subst (λ cs. Reports on s (λ t. executed_all t cs) (line (answer_text answer.Ok)) s silent) (sym none)
-    (reports_same s (λ t. executed_all t []) answer.Ok (λ fates. carried_none (as_server_state s fates)))
+    subst (λ cs. Reports on s (λ t. operations_reply t cs) (line (answer_text answer.Ok)) s silent) (sym none)
+    (reports_same s (λ t. operations_reply t []) answer.Ok (λ fates. carried_none (as_server_state s fates)))
 
 -- ---- a command that makes steps, before its first step
 
 abbrev by_goal : StepRequest → ServerState → Reply
 by_goal goal s = unless_broken s (steps_or_refusal s (steps_to_make s.state goal))
 
-goal_broken : (goal : StepRequest) (s : ServerState) → s.is_broken ≡ true → by_goal goal s ≡ answered s answer.Broken
+goal_broken : (goal : StepRequest) (s : ServerState) → s.is_broken ≡ true → by_goal goal s ≡ answer_reply s answer.Broken
 goal_broken goal s e = rw e refl
 
-goal_refused : (goal : StepRequest) (s : ServerState) (a : Answer) → s.is_broken ≡ false → steps_to_make s.state goal ≡ Err a → by_goal goal s ≡ answered s a
+goal_refused : (goal : StepRequest) (s : ServerState) (a : Answer) → s.is_broken ≡ false → steps_to_make s.state goal ≡ Err a → by_goal goal s ≡ answer_reply s a
 goal_refused goal s a e f = rw (e, f) refl
 
-goal_begun : (goal : StepRequest) (s : ServerState) (steps : StepCursor) → s.is_broken ≡ false → steps_to_make s.state goal ≡ Ok steps → by_goal goal s ≡ executed_all s (commands_of steps s.state)
+goal_begun : (goal : StepRequest) (s : ServerState) (steps : StepCursor) → s.is_broken ≡ false → steps_to_make s.state goal ≡ Ok steps → by_goal goal s ≡ operations_reply s (commands_of steps s.state)
 goal_begun goal s steps e f = rw (e, f) refl
 
 pub steps_broken : {D : Type 0} {on : sectors.Ghosts D} (goal : StepRequest) (s : SessionValue D) → s.is_broken ≡ true → Reports on s (by_goal goal) (line (answer_text answer.Broken)) s silent
@@ -509,6 +509,6 @@ steps_refused goal s a e f = reports_same s (by_goal goal) a (λ fates. goal_ref
 
 pub steps_begun : {D T E : Type 0} (on : sectors.Ghosts D) (reported : Result T E) (goal : StepRequest) (s new : SessionValue D) (steps : StepCursor) (o y : Stream)
     → s.is_broken ≡ false → steps_to_make s.state goal ≡ Ok steps
-    → Answers on reported s (λ t. executed_all t (commands_of steps s.state)) o y new silent → Answers on reported s (by_goal goal) o y new silent
+    → Answers on reported s (λ t. operations_reply t (commands_of steps s.state)) o y new silent → Answers on reported s (by_goal goal) o y new silent
 steps_begun on reported goal s new steps o y e f answers =
-    answers_as on reported s new (λ t. executed_all t (commands_of steps s.state)) (by_goal goal) silent o y (λ fates. goal_begun goal (as_server_state s fates) steps e f) answers
+    answers_as on reported s new (λ t. operations_reply t (commands_of steps s.state)) (by_goal goal) silent o y (λ fates. goal_begun goal (as_server_state s fates) steps e f) answers

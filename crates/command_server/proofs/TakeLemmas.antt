@@ -35,7 +35,7 @@ use Rattle.std.proofs.Common.{
 }
 use Rattle.std.specs.Prelude.{IfOk, IfSome, MatchResult, nat_lt, if◌then◌else◌, ⊤}
 use Rattle.command_text.specs.declared.parsed_command.Purpose.{Purpose}
-use Rattle.command_text.specs.Cutting.{Piece, announced, is_end, pieces_of}
+use Rattle.command_text.specs.Cutting.{Piece, announced_len, is_end, pieces_of}
 use Rattle.command_text.specs.Laws.{PiecesFollow, cut_at}
 use Rattle.command_text.specs.declared.parsed_command.ParsedCommand.{ParsedCommand}
 use Rattle.command_text.specs.declared.parsed_command.ParsedCommand.TheVariants.{Text}
@@ -65,11 +65,11 @@ no_feed_left line rest is = omega (arith, ap length is, length-append line (10 �
 
 -- ---- after a line
 
-cut_text : (a : ParsedCommand) (text rest : List ℕ) → length text ≡ announced a → is_end a false ≡ false → cut_at a (text ++ rest) ≡ record { requested = a; text = text } ∷ pieces_of rest
+cut_text : (a : ParsedCommand) (text rest : List ℕ) → length text ≡ announced_len a → is_end a false ≡ false → cut_at a (text ++ rest) ≡ record { requested = a; text = text } ∷ pieces_of rest
 cut_text a text rest is goes =
-    ap₂ {C = List Piece} (λ (t following : List ℕ). record { requested = a; text = t } ∷ (if is_end a (nat_lt (length t) (announced a)) then [] else pieces_of following)) (take_front (announced a) text rest is)
-    (drop_front (announced a) text rest is)
-    ∙ ap (λ (b : Bool). record { requested = a; text = text } ∷ (if is_end a b then [] else pieces_of rest)) (not_short (announced a) text is)
+    ap₂ {C = List Piece} (λ (t following : List ℕ). record { requested = a; text = t } ∷ (if is_end a (nat_lt (length t) (announced_len a)) then [] else pieces_of following)) (take_front (announced_len a) text rest is)
+    (drop_front (announced_len a) text rest is)
+    ∙ ap (λ (b : Bool). record { requested = a; text = text } ∷ (if is_end a b then [] else pieces_of rest)) (not_short (announced_len a) text is)
     ∙ ap (λ (b : Bool). record { requested = a; text = text } ∷ (if b then [] else pieces_of rest)) goes
 
 all_taken : (most : ℕ) (bytes : List ℕ) → length bytes < most → IsTaken most bytes
@@ -154,7 +154,7 @@ taken_whole bytes old known left later is none counts some = at known none (subs
 -- ---- the bytes that a line takes
 
 module _ {R : Type 0} (on : sources.Ghosts R) where
-  takes_none : (a : ParsedCommand) (known : Option (List ℕ)) → announced a ≡ 0 → is_end a false ≡ false → TakesKnown a Continue known known
+  takes_none : (a : ParsedCommand) (known : Option (List ℕ)) → announced_len a ≡ 0 → is_end a false ≡ false → TakesKnown a Continue known known
   takes_none a None none goes = tt
   takes_none a (Some xs) none goes = ([], refl, sym none, goes)
 
@@ -162,7 +162,7 @@ module _ {R : Type 0} (on : sources.Ghosts R) where
   ends_at a None ends = tt
   ends_at a (Some xs) ends = inr (refl, ends)
 
-  pub line_takes : (a : ParsedCommand) (input : Input) (reader : R) → announced a ≡ 0 → is_end a false ≡ false → TakesAnnounced on a input reader input reader Continue
+  pub line_takes : (a : ParsedCommand) (input : Input) (reader : R) → announced_len a ≡ 0 → is_end a false ≡ false → TakesAnnounced on a input reader input reader Continue
   line_takes a input reader none goes = record {
     less = omega arith;
     exact = all_nothing on input reader;
@@ -182,9 +182,9 @@ module _ {R : Type 0} (on : sources.Ghosts R) where
   once_takes (Err failed) r to Takes is takes = subst (λ o. IfOk o Takes) (sym is) tt
 
   module _ {E : Type 0} {line a : ParsedCommand} (r : Result Flow ServeFault) (input : Input) (reader : R) (is_line : line ≡ a) (reported : Result ⊤ E) where
-    pub reported_on : MatchResult reported (λ _. r ≡ Ok Continue) (λ _. r ≡ Err fault.WriteFault) → announced a ≡ 0 → is_end a false ≡ false → IfOk r (TakesAnnounced on line input reader input reader)
+    pub reported_on : MatchResult reported (λ _. r ≡ Ok Continue) (λ _. r ≡ Err fault.WriteFault) → announced_len a ≡ 0 → is_end a false ≡ false → IfOk r (TakesAnnounced on line input reader input reader)
     reported_on is none goes =
-        once_takes reported r Continue (TakesAnnounced on line input reader input reader) is (line_takes line input reader (ap announced is_line ∙ none) (ap (λ b. is_end b false) is_line ∙ goes))
+        once_takes reported r Continue (TakesAnnounced on line input reader input reader) is (line_takes line input reader (ap announced_len is_line ∙ none) (ap (λ b. is_end b false) is_line ∙ goes))
 
     pub reported_to_end : MatchResult reported (λ _. r ≡ Ok Finish) (λ _. r ≡ Err fault.WriteFault) → is_end a false ≡ true → IfOk r (TakesAnnounced on line input reader input reader)
     reported_to_end is ends = once_takes reported r Finish (TakesAnnounced on line input reader input reader) is (line_ends line input reader (ap (λ b. is_end b false) is_line ∙ ends))

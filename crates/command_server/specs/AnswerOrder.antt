@@ -1,7 +1,7 @@
 -- The order of answers and operations: an answer is written only after what it reports.
 use Rattle.std.specs.Prelude.{◌≡◌, ◌≤◌, ℕ, List, ◌++◌, length, Result, ⊤}
 use Rattle.std.specs.List.{AllByRecursion}
-use Rattle.command_text.specs.Answering.{Fate, served}
+use Rattle.command_text.specs.Answering.{Fate, pieces_reply}
 use Rattle.command_text.specs.Cutting.{pieces_of}
 use Rattle.command_text.specs.Readings.{Reading}
 use Rattle.recover.specs.Replies.{acknowledged_count}
@@ -24,7 +24,7 @@ calls_at (Flushed calls) = calls
 pub record ReportsAcknowledged {D : Type 0} (reading : Reading) (old : SessionValue D) (input : List ℕ) (acts : List Act) (m : ℕ) (text : List ℕ) : Type 0 where
   pub first : List Act
   pub begins : IsPrefixOf first acts
-  pub reports : (later : List Fate) → Begins text first (served reading (as_server_state old (fates_of first ++ later)) (pieces_of input))
+  pub reports : (later : List Fate) → Begins text first (pieces_reply reading (as_server_state old (fates_of first ++ later)) (pieces_of input))
   pub requested : IsPrefixOf (executed_of first) (requested_by reading old (pieces_of input) acts)
   pub acknowledged : length (executed_of first) ≤ acknowledged_count m (replies_of acts)
 

@@ -6,7 +6,7 @@
 use Rattle.std.specs.Prelude.{◌≡◌, ℕ, false, List, ◌++◌, Result, Ok, Err, ⊤}
 use Rattle.command_types.specs.declared.commands.Command.{Command}
 use Rattle.command_types.specs.declared.states.State.{State}
-use Rattle.command_text.specs.Answering.{Fate, served}
+use Rattle.command_text.specs.Answering.{Fate, pieces_reply}
 use Rattle.command_text.specs.Cutting.{Piece, pieces_of}
 use Rattle.command_text.specs.Readings.{Reading}
 use Rattle.checkpoint.specs.declared.faults.StoreFault.{StoreFault}
@@ -26,7 +26,7 @@ use Rattle.command_server.specs.declared.answering.ServeFault.{ServeFault}
 
 -- The operations that an input requests if its attempts have these fates, in order.
 abbrev pub requested_commands : {D : Type 0} → Reading → SessionValue D → List Piece → List Fate → List Command
-requested_commands reading session pieces fates = (served reading (as_server_state session fates) pieces).commands
+requested_commands reading session pieces fates = (pieces_reply reading (as_server_state session fates) pieces).commands
 
 -- The operations that an input requests if its attempts have the fates of these acts, but the device never fails.
 abbrev pub requested_by : {D : Type 0} → Reading → SessionValue D → List Piece → List Act → List Command
@@ -58,7 +58,7 @@ module _ {D : Type 0} (on : sectors.Ghosts D) where
   -- and the input requests all operations that the run keeps.
   pub record IsRunOfInput (reading : Reading) (old : SessionValue D) (input : List ℕ) (acts : List Act) (new : SessionValue D) : Type 0 where
     pub run : IsRunOn on old (commands_of acts) (replies_of acts) new
-    pub requested : AreRequested old (λ s. served reading s (pieces_of input)) acts
+    pub requested : AreRequested old (λ s. pieces_reply reading s (pieces_of input)) acts
     pub requests_kept : IsPrefixOf (kept_of acts) (requested_by reading old (pieces_of input) acts)
 
   -- Law: the acts of serving an input are a run of that input.

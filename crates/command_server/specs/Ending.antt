@@ -2,7 +2,7 @@
 use Rattle.std.specs.Prelude.{◌≡◌, ◌≤◌, ℕ, List, ◌++◌, length, take, Option, Some, None, Result, ⊤}
 use Rattle.text_lines.specs.Lines.{HasNoLineFeed}
 use Rattle.command_types.specs.declared.commands.Command.{Command}
-use Rattle.command_text.specs.Answering.{Fate, served}
+use Rattle.command_text.specs.Answering.{Fate, pieces_reply}
 use Rattle.command_text.specs.Cutting.{Piece, pieces_of}
 use Rattle.command_text.specs.Readings.{Reading}
 use Rattle.recover.specs.Sessions.{SessionValue}
@@ -29,7 +29,7 @@ pub record AreReportedByOneAnswer {D : Type 0} (reading : Reading) (old : Sessio
   pub whole : put ≡ before ++ take len answer
   pub allows : failed_answer_in before ≡ None
   pub ends : HasNoLineFeed (take len answer) → ⊥
-  pub reports : (later : List Fate) → Begins before first (served reading (as_server_state old (fates_of first ++ later)) pieces)
+  pub reports : (later : List Fate) → Begins before first (pieces_reply reading (as_server_state old (fates_of first ++ later)) pieces)
 
 -- Serving ended at this answer, and nothing was executed after it. The answer is one to at most one piece.
 -- Whatever the fates of later attempts, the session would next answer the steps that are left of its command, if
@@ -42,7 +42,7 @@ pub record EndsAtAnswer {D : Type 0} (reading : Reading) (old : SessionValue D) 
   pub following : List Piece
   pub split : pieces ≡ front ++ (begun ++ following)
   pub one : length begun ≤ 1
-  pub says : (later : List Fate) → served reading (as_server_state old (fates_of acts ++ later)) pieces
+  pub says : (later : List Fate) → pieces_reply reading (as_server_state old (fates_of acts ++ later)) pieces
       ≡ preceded (reported.before ++ reported.answer) (executed_of acts) (still reading steps following (as_server_state new later))
 
 module _ {D : Type 0} (on : sectors.Ghosts D) where

@@ -2,9 +2,9 @@
 use Rattle.std.specs.Prelude.{◌≡◌, ◌≤◌, ◌<◌, ◌+◌, ◌++◌, ◌⊎◌, ℕ, min, Bool, true, false, List, [], ◌∷◌, length, take, Option, Some, None, OnSome, IfSome, ⊤}
 use Rattle.std.specs.Io.KnownBytes.{Consumes, IsAtEnd, prepend_known}
 use Rattle.text_lines.specs.Lines.{HasNoLineFeed}
-use Rattle.command_text.specs.Scanning.{scanned}
+use Rattle.command_text.specs.Scanning.{scan_of}
 use Rattle.std.specs.Str.Lines.{strip_carriage_return}
-use Rattle.command_text.specs.Parsing.{requested}
+use Rattle.command_text.specs.Parsing.{parsed_line}
 use Rattle.command_text.specs.declared.parsed_command.ParsedCommand.{ParsedCommand}
 use Rattle.command_server.specs.declared.input.AnnouncedText.{AnnouncedText}
 use Rattle.command_server.specs.declared.input.AnnouncedText.TheVariants.{Whole, Dropped, Short}
@@ -18,7 +18,7 @@ use Rattle.command_server.specs.declared.streams.Source as sources
 
 -- `line` keeps the first 1,026 of these bytes, and the result of scanning their first word.
 abbrev pub IsPartialLine : List ℕ → PartialLine → Type 0
-IsPartialLine bytes line = (line.kept.items ≡ take 1026 bytes) × (line.first_word ≡ scanned bytes)
+IsPartialLine bytes line = (line.kept.items ≡ take 1026 bytes) × (line.first_word ≡ scan_of bytes)
 
 -- n is the number of bytes before the first line feed, or of all bytes if there is none.
 pub record IsFirstLineLen (bytes : List ℕ) (n : ℕ) : Type 0 where
@@ -106,14 +106,14 @@ pub record IsPartOf (old now : Option (List ℕ)) (line : PartialLine) : Type 0 
 -- The command of the input's last line, which no line feed ends; `None` if this line is empty.
 abbrev pub IsLast : List ℕ → Option ParsedCommand → Type 0
 IsLast line None = line ≡ []
-IsLast line (Some a) = (0 < length line) × (a ≡ requested (strip_carriage_return line))
+IsLast line (Some a) = (0 < length line) × (a ≡ parsed_line (strip_carriage_return line))
 
 -- The first line of these bytes parses to `a`, and the rest follows its line feed. Or it is the last line, and
 -- nothing follows.
 pub record CutsLine (a : ParsedCommand) (bytes rest : List ℕ) : Type 0 where
   pub line : List ℕ
   pub free : HasNoLineFeed line
-  pub requests_kept : a ≡ requested (strip_carriage_return line)
+  pub requests_kept : a ≡ parsed_line (strip_carriage_return line)
   pub whole : (bytes ≡ line ++ 10 ∷ rest) ⊎ ((bytes ≡ line) × (rest ≡ []) × (0 < length line))
 
 -- If the rest of the input is known, its first line parses to `a`, and `new` is what follows it.

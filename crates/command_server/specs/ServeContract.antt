@@ -5,8 +5,8 @@ use Rattle.std.specs.Str.Lines.{strip_carriage_return}
 use Rattle.text_lines.specs.Lines.{HasNoLineFeed}
 use Rattle.command_core.specs.Runs.{after}
 use Rattle.command_types.specs.declared.commands.Command.{Command}
-use Rattle.command_text.specs.Answering.{Fate, Done, Reply, ServerState, executed_all, joined_replies, served}
-use Rattle.command_text.specs.Parsing.{requested}
+use Rattle.command_text.specs.Answering.{Fate, Done, Reply, ServerState, operations_reply, joined_replies, pieces_reply}
+use Rattle.command_text.specs.Parsing.{parsed_line}
 use Rattle.command_text.specs.Cutting.{Piece, is_end, pieces_of}
 use Rattle.command_text.specs.Readings.{Reading}
 use Rattle.command_server.specs.declared.answering.ServeFault.{ServeFault}
@@ -30,8 +30,8 @@ preceded text commands r = record { text = text ++ r.text; commands = commands +
 -- The answers that are still due: first to these operations, if a command that makes steps is being executed, and
 -- then to these pieces.
 abbrev pub still : Reading → Option (List Command) → List Piece → ServerState → Reply
-still reading None pieces s = served reading s pieces
-still reading (Some commands) pieces s = let r = executed_all s commands in joined_replies r (served reading r.left pieces)
+still reading None pieces s = pieces_reply reading s pieces
+still reading (Some commands) pieces s = let r = operations_reply s commands in joined_replies r (pieces_reply reading r.left pieces)
 
 -- The text of the reply begins with this text, and its operations begin with those that these acts executed.
 pub record Begins (reported : List ℕ) (acts : List Act) (reply : Reply) : Type 0 where
@@ -82,7 +82,7 @@ module _ {D : Type 0} (on : sectors.Ghosts D) where
   pub record AreAnswered (reading : Reading) (old : SessionValue D) (pieces following : List Piece) (turns : List Turn) : Type 0 where
     pub mid : SessionValue D
     pub text : List ℕ
-    pub leads : Leads old (λ s. served reading s pieces) text mid (λ s. served reading s following)
+    pub leads : Leads old (λ s. pieces_reply reading s pieces) text mid (λ s. pieces_reply reading s following)
     pub rest : List Turn
     pub first : turns ≡ leads.turns ++ rest
 
@@ -97,14 +97,14 @@ module _ {D : Type 0} (on : sectors.Ghosts D) where
     pub acts : List Act
     pub turns : List Turn
     pub run : IsRunOn on old (commands_of acts) (replies_of acts) new
-    pub reported : AreReported old (λ s. served reading s (pieces_of input)) acts (served reading (as_server_state old (fates_of acts)) (pieces_of input)).text turns
+    pub reported : AreReported old (λ s. pieces_reply reading s (pieces_of input)) acts (pieces_reply reading (as_server_state old (fates_of acts)) (pieces_of input)).text turns
     pub lines : (some following : List Piece) → pieces_of input ≡ some ++ following → AreAnswered reading old (pieces_of input) following turns
-    pub written : Extends before after_it (events_by turns) (served reading (as_server_state old (fates_of acts)) (pieces_of input)).text
-    pub left : (served reading (as_server_state old (fates_of acts)) (pieces_of input)).left ≡ as_server_state new []
-    pub executed : (served reading (as_server_state old (fates_of acts)) (pieces_of input)).commands ≡ executed_of acts
-    pub requested : AreRequested old (λ s. served reading s (pieces_of input)) acts
-    pub requests_kept : IsPrefixOf (kept_of acts) (served reading (as_server_state old (without_failures (fates_of acts))) (pieces_of input)).commands
-    pub state : new.state ≡ after old.state (served reading (as_server_state old (fates_of acts)) (pieces_of input)).commands
+    pub written : Extends before after_it (events_by turns) (pieces_reply reading (as_server_state old (fates_of acts)) (pieces_of input)).text
+    pub left : (pieces_reply reading (as_server_state old (fates_of acts)) (pieces_of input)).left ≡ as_server_state new []
+    pub executed : (pieces_reply reading (as_server_state old (fates_of acts)) (pieces_of input)).commands ≡ executed_of acts
+    pub requested : AreRequested old (λ s. pieces_reply reading s (pieces_of input)) acts
+    pub requests_kept : IsPrefixOf (kept_of acts) (pieces_reply reading (as_server_state old (without_failures (fates_of acts))) (pieces_of input)).commands
+    pub state : new.state ≡ after old.state (pieces_reply reading (as_server_state old (fates_of acts)) (pieces_of input)).commands
 
   -- Serving was cut short by a fault. The answers before the last one were written and flushed, with success
   -- reported, and led the session from `old` to `reported`. The steps `commands` of a command, if any, and the
@@ -119,7 +119,7 @@ module _ {D : Type 0} (on : sectors.Ghosts D) where
     pub split : pieces ≡ front ++ following
     pub reported : SessionValue D
     pub text : List ℕ
-    pub answered : Leads old (λ s. served reading s pieces) text reported (still reading commands following)
+    pub answered : Leads old (λ s. pieces_reply reading s pieces) text reported (still reading commands following)
     -- The answer to each piece before the last pieces was flushed before the next piece was begun.
     pub lines : (some others : List Piece) (next : Piece) → front ≡ some ++ next ∷ others → AreAnswered reading old pieces (next ∷ (others ++ following)) answered.turns
     pub later_commands : Option (List Command)
@@ -160,7 +160,7 @@ pub record AreEnded (bytes : List ℕ) : Type 0 where
   pub whole : ArePieces before
   pub line : List ℕ
   pub free : HasNoLineFeed line
-  pub ends : is_end (requested (strip_carriage_return line)) false ≡ true
+  pub ends : is_end (parsed_line (strip_carriage_return line)) false ≡ true
   pub split : bytes ≡ before ++ (line ++ 10 ∷ [])
 
 -- The part of an input that was taken: all of it, or the bytes up to a line that ends serving. It has fewer

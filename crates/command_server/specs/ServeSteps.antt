@@ -1,6 +1,6 @@
 -- The work of a session and the text written, in terms of replies.
 use Rattle.std.specs.Prelude.{◌≡◌, ◌≤◌, ◌++◌, ◌⊎◌, ℕ, Bool, true, false, List, [], length, Option, Some, None, Result, Ok, Err, MatchResult, ⊤}
-use Rattle.command_text.specs.Answering.{Reply, ServerState, answered, executed_all, progress_text, served, text_reply, unless_broken}
+use Rattle.command_text.specs.Answering.{Reply, ServerState, answer_reply, operations_reply, progress_text, pieces_reply, text_reply, unless_broken}
 use Rattle.command_text.specs.Answers.{answer_text, line}
 use Rattle.command_text.specs.declared.answers.Answer.{Answer}
 use Rattle.command_text.specs.declared.answers.Progress.{Progress}
@@ -20,7 +20,7 @@ use Rattle.command_server.specs.ServeContract.{AreAnswered, ArePieces, IsCutShor
 use Rattle.command_server.specs.Streams.{Extends, IsPartlyPut, Stream}
 use Rattle.command_server.specs.declared.answering.ServeFault.{ServeFault}
 use Rattle.command_server.specs.declared.answering.ServeFault.TheVariants as fault
-use Rattle.command_text.specs.Cutting.{Piece, announced, is_end, pieces_of}
+use Rattle.command_text.specs.Cutting.{Piece, announced_len, is_end, pieces_of}
 use Rattle.command_text.specs.declared.parsed_command.ParsedCommand.{ParsedCommand}
 use Rattle.recover.specs.declared.denials.Denial.{Denial}
 use Rattle.recover.specs.declared.denials.Denial.TheVariants as denial
@@ -49,7 +49,7 @@ pub record Serves {D : Type 0} (on : sectors.Ghosts D) (old : SessionValue D) (f
 -- The reply to the remaining operations of a command that makes steps, if one is being executed.
 abbrev pub still_executed : Option (List Command) → ServerState → Reply
 still_executed None = silent
-still_executed (Some commands) = λ s. executed_all s commands
+still_executed (Some commands) = λ s. operations_reply s commands
 
 -- The first answer to a command was written in part or not at all.
 pub record CutAtOnce {D : Type 0} (on : sectors.Ghosts D) (old : SessionValue D) (from : ServerState → Reply) (before after : Stream) (new : SessionValue D) : Type 0 where
@@ -63,10 +63,10 @@ pub record CutWithin {D : Type 0} (on : sectors.Ghosts D) (old : SessionValue D)
   pub commands : List Command
   pub reported : SessionValue D
   pub text : List ℕ
-  pub answered : Leads on old from text reported (λ s. executed_all s commands)
+  pub answered : Leads on old from text reported (λ s. operations_reply s commands)
   pub last : List ℕ
   pub later : Option (List Command)
-  pub reports : Reports on reported (λ s. executed_all s commands) last new (still_executed later)
+  pub reports : Reports on reported (λ s. operations_reply s commands) last new (still_executed later)
   pub flushed_stream : Stream
   pub written : Extends before flushed_stream (events_by answered.turns) text
   pub part : IsPartlyPut flushed_stream after (on.calls new.device) last
@@ -108,7 +108,7 @@ bytes_reply reading purpose bytes s = unless_broken s (text_reply reading purpos
 -- The reply to a command, by the result of reading its announced bytes. The bytes are known to the definition
 -- even if memory for them could not be allocated.
 abbrev pub announced_reply : AnnouncedText → Reading → Purpose → List ℕ → ServerState → Reply
-announced_reply Short reading purpose bytes s = answered s answer.Truncated
+announced_reply Short reading purpose bytes s = answer_reply s answer.Truncated
 announced_reply Dropped reading purpose bytes s = bytes_reply reading purpose bytes s
 announced_reply (Whole text) reading purpose bytes s = bytes_reply reading purpose text.items s
 
@@ -119,7 +119,7 @@ flow_after _ = Continue
 
 -- The reply to the rest of the input: to what is left if serving continues, and none if it ends.
 abbrev pub remaining_reply : Reading → Flow → List ℕ → ServerState → Reply
-remaining_reply reading Continue left s = served reading s (pieces_of left)
+remaining_reply reading Continue left s = pieces_reply reading s (pieces_of left)
 remaining_reply reading Finish left s = silent s
 
 -- The pieces of the rest of the input: those of what is left if serving continues, and none if it ends.
@@ -134,7 +134,7 @@ pub record ServesPieces {D : Type 0} (on : sectors.Ghosts D) (reading : Reading)
   pub is_known : known ≡ Some left
   pub front : List Piece
   pub split : pieces ≡ front ++ pieces_after goes left
-  pub serves : Serves on old (λ s. served reading s pieces) before after new (remaining_reply reading goes left)
+  pub serves : Serves on old (λ s. pieces_reply reading s pieces) before after new (remaining_reply reading goes left)
   pub lines : (some others : List Piece) → front ≡ some ++ others → AreAnswered on reading old pieces (others ++ pieces_after goes left) serves.leads.turns
 
 -- The pieces were answered, except those of the rest of the input; or serving was cut short.
@@ -145,7 +145,7 @@ ContinuesOrIsCut on r reading old pieces before after new known =
 -- After a line that parses to `a`: if serving continues, the bytes that the line announces were taken. If serving
 -- ends, this line ends it, or nothing is left.
 abbrev pub TakesBytes : ParsedCommand → Flow → List ℕ → List ℕ → Type 0
-TakesBytes a Continue old new = (text : List ℕ) × (old ≡ text ++ new) × (length text ≡ announced a) × (is_end a false ≡ false)
+TakesBytes a Continue old new = (text : List ℕ) × (old ≡ text ++ new) × (length text ≡ announced_len a) × (is_end a false ≡ false)
 TakesBytes a Finish old new = (new ≡ []) ⊎ ((new ≡ old) × (is_end a false ≡ true))
 
 -- Like `TakesBytes`, for an input that is known.

@@ -1,7 +1,7 @@
 //! The commands of an input, executed on a session: `serve_source`, and a function for each kind of command.
 ghost use Rattle.std.specs.Prelude.{◌≡◌, ◌<◌, ◌++◌, ◌^◌, [], IfErr, IfOk, OnErr, OnOk, MatchResult, ℕ, List, Result, Ok, Err, Some, true, false, length};
 ghost use Rattle.instance_read.specs.declared.formats.Format.{Format};
-ghost use Rattle.command_text.specs.Answering.{at_line, executed_all, commands_of, question_reply, instance_reply, steps_or_refusal, next_reply, plain, print_reply, refused, show_reply, steps_to_make, unless_broken};
+ghost use Rattle.command_text.specs.Answering.{at_line, operations_reply, commands_of, question_reply, instance_reply, steps_or_refusal, next_reply, plain, print_reply, refusal_reply, show_reply, steps_to_make, unless_broken};
 ghost use Rattle.command_text.specs.Laws.{cut_at};
 ghost use Rattle.command_text.specs.Readings.{IsReading, Reading};
 ghost use Rattle.command_text.specs.Answers.{answer_text, line};
@@ -378,7 +378,7 @@ fn answer_to_denial(denial: Denial) -> Answer
 
 // Returns the answer to a command with a number that its field can't hold.
 fn refused<D: Sectors>(session: &Session<D>, refusal: Refusal) -> Answer
-    ensures { Reports D.Sectors session.now (λ s. unless_broken s (refused s s.state refusal))
+    ensures { Reports D.Sectors session.now (λ s. unless_broken s (refusal_reply s s.state refusal))
         (line (answer_text result)) session.now silent }
 {
     if session.is_broken() {
@@ -565,7 +565,7 @@ fn make_steps<L: Log, D: Sectors, W: Sink>(
     steps: StepCursor,
 ) -> Result<(), IoFault>
     ensures answers { Answers D.Sectors result session.old
-        (λ s. executed_all s (commands_of steps session.old.state))
+        (λ s. operations_reply s (commands_of steps session.old.state))
         (W.stream writer.old) (W.stream writer.new) session.new silent }
     ensures failed { OnErr result (W.has_failed writer.new ≡ true) }
     ensures origin { W.origin writer.new ≡ W.origin writer.old }
@@ -609,9 +609,9 @@ fn write_at_line<D: Sectors, W: Sink>(session: &Session<D>, writer: &mut W) -> R
     ensures failed { OnErr result (W.has_failed writer.new ≡ true) }
     ensures origin { W.origin writer.new ≡ W.origin writer.old }
 {
-    match session.state() {
-        State::Loaded(job) => put_line(session, writer, at_line(job).as_bytes()),
-        State::Empty => flush_unlogged(session, writer),
+    match session.incumbent() {
+        Some((job, cost)) => put_line(session, writer, at_line(job, cost).as_bytes()),
+        None => flush_unlogged(session, writer),
     }
 }
 

@@ -4,7 +4,7 @@
 //! not depend on the pieces.
 ghost use Rattle.std.specs.Prelude.{◌≡◌, ◌≤◌, ◌<◌, ◌+◌, ◌-◌, ◌++◌, IfOk, MatchResult, OnErr, OnOk, OnSome, ℕ, List, [], length};
 ghost use Rattle.std.specs.Str.Lines.{strip_carriage_return};
-ghost use Rattle.command_text.specs.Parsing.{requested};
+ghost use Rattle.command_text.specs.Parsing.{parsed_line};
 ghost use Rattle.command_server.specs.Input.{Between, Counts, CountsExactly, CutsNext, IsFirstLineLen, IsLast, IsPartialLine, IsPartialText, IsInputFault, TakesAll, TakesLess, TakesMore, TakesPart, TakesBuffered, TakesText};
 
 use crate::read_buffer::ReadBuffer;
@@ -59,7 +59,7 @@ impl PartialLine {
     // Parses the line, once it has ended.
     fn requested(&self) -> ParsedCommand
         ensures { (line : List ℕ) → IsPartialLine line self.now
-            → result ≡ requested (strip_carriage_return line) }
+            → result ≡ parsed_line (strip_carriage_return line) }
     {
         if self.kept.len() < KEPT_LEN {
             return read_line(without_return(self.kept.as_slice()));

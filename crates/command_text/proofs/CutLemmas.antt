@@ -5,8 +5,8 @@ use Rattle.std.proofs.lemmas.Bool.{ne_eqb}
 use Rattle.std.proofs.lemmas.List.{drop_all, take_all, get_or_default}
 use Rattle.std.proofs.Math.Seq.{drop-append-add, take-append_seam}
 use Rattle.text_lines.specs.Lines.{HasNoLineFeed}
-use Rattle.command_text.specs.Parsing.{requested}
-use Rattle.command_text.specs.Cutting.{Piece, announced, requested_first, ends, first_piece, line_len, pieces_after, pieces_of}
+use Rattle.command_text.specs.Parsing.{parsed_line}
+use Rattle.command_text.specs.Cutting.{Piece, announced_len, first_command, ends, first_piece, line_len, pieces_after, pieces_of}
 use Rattle.command_text.specs.Laws.{PiecesEnd, PiecesFollow, cut_at, piece_at}
 
 pub none : pieces_of [] ≡ []
@@ -23,9 +23,9 @@ skip (suc k) (b ∷ bs) = skip k bs
 -- the pieces of a text whose first line has `len` bytes
 abbrev cut_by : ℕ → List ℕ → List Piece
 cut_by len text =
-    let a = requested (strip_carriage_return (take len text)) in
+    let a = parsed_line (strip_carriage_return (take len text)) in
     let p = piece_at a (drop (len + 1) text) in
-    p ∷ (if ends p then [] else pieces_of (drop (len + 1 + announced a) text))
+    p ∷ (if ends p then [] else pieces_of (drop (len + 1 + announced_len a) text))
 
 one_more : (n m : ℕ) → n + 1 + m ≡ suc (n + m)
 one_more n m = omega arith
@@ -35,16 +35,16 @@ unfolding pieces_after
 first_is [] some = absurd (omega (arith, some))
 first_is (b ∷ bs) some =
     let text = b ∷ bs in
-    let n = announced (requested_first text) in
+    let n = announced_len (first_command text) in
     ap (λ ps. first_piece text ∷ (if ends (first_piece text) then [] else ps)) (skip (line_len text + n) bs ∙ ap (λ k. pieces_of (drop k text)) (sym (one_more (line_len text) n)))
 
 module _ (text line rest : List ℕ) (len : ℕ) (prefix : take len text ≡ line) (following : drop (len + 1) text ≡ rest) (further : (n : ℕ) → drop (len + 1 + n) text ≡ drop n rest) where
-  by_parts : cut_by len text ≡ cut_at (requested (strip_carriage_return line)) rest
+  by_parts : cut_by len text ≡ cut_at (parsed_line (strip_carriage_return line)) rest
   by_parts =
-      let a = requested (strip_carriage_return line) in
-      ap (λ l. let a' = requested (strip_carriage_return l) in let p = piece_at a' (drop (len + 1) text) in p ∷ (if ends p then [] else pieces_of (drop (len + 1 + announced a') text))) prefix
-      ∙ ap (λ r. piece_at a r ∷ (if ends (piece_at a r) then [] else pieces_of (drop (len + 1 + announced a) text))) following
-      ∙ ap (λ r. piece_at a rest ∷ (if ends (piece_at a rest) then [] else pieces_of r)) (further (announced a))
+      let a = parsed_line (strip_carriage_return line) in
+      ap (λ l. let a' = parsed_line (strip_carriage_return l) in let p = piece_at a' (drop (len + 1) text) in p ∷ (if ends p then [] else pieces_of (drop (len + 1 + announced_len a') text))) prefix
+      ∙ ap (λ r. piece_at a r ∷ (if ends (piece_at a r) then [] else pieces_of (drop (len + 1 + announced_len a) text))) following
+      ∙ ap (λ r. piece_at a rest ∷ (if ends (piece_at a rest) then [] else pieces_of r)) (further (announced_len a))
 
 no_feed_at : (line : List ℕ) → HasNoLineFeed line → (j : ℕ) → j < length line → get_or line j 0 ≡ 10 → ⊥
 no_feed_at line no_feed j below here = no_feed (j, below, get_or_default line j 10 0 below ∙ here)
@@ -87,8 +87,8 @@ nothing_more false n = ap pieces_of (nothing_left n) ∙ none
 
 pub last : PiecesEnd
 last line no_feed some =
-    let a = requested (strip_carriage_return line) in
+    let a = parsed_line (strip_carriage_return line) in
     first_is line some ∙ ap (λ n. cut_by n line) (no_feed_there line (no_feed_at line no_feed))
     ∙ by_parts line line [] (length line) (take_all (length line) line (omega arith)) (drop_all (length line + 1) line (omega arith))
     (λ n. drop_all (length line + 1 + n) line (omega arith) ∙ sym (nothing_left n))
-    ∙ ap (λ ps. piece_at a [] ∷ ps) (nothing_more (ends (piece_at a [])) (announced a))
+    ∙ ap (λ ps. piece_at a [] ∷ ps) (nothing_more (ends (piece_at a [])) (announced_len a))

@@ -19,7 +19,7 @@ use Rattle.command_types.specs.declared.refusals.Refusal.TheVariants.{Range}
 use Rattle.command_text.specs.declared.answers.Answer.TheVariants as answer
 use Rattle.command_types.specs.declared.states.State.{State}
 use Rattle.command_types.specs.declared.states.State.TheVariants.{Empty, Loaded}
-use Rattle.command_text.specs.Answering.{Fate, ServerState, unbroken_session, executed_all, counts_of, steps_or_refusal, steps_to_make}
+use Rattle.command_text.specs.Answering.{Fate, ServerState, unbroken_session, operations_reply, counts_of, steps_or_refusal, steps_to_make}
 use Rattle.command_text.specs.Laws.{ReachedLinesMayBeCut}
 use Rattle.command_text.specs.declared.steps.StepRequest.TheVariants as goal
 use Rattle.command_text.specs.declared.steps.StepCursor.TheVariants as makes
@@ -101,7 +101,7 @@ module _ (one : RunsAreOneSearch) (add_up : SearchesAddUp) (n : ℕ) (room : n �
   not_begun : (j : JobValue) (fates : List Fate) → is_requested j ≡ false → left_by (unbroken_session (Loaded j) fates) ≡ Loaded j
   not_begun j fates e = ap (λ b. (steps_or_refusal (unbroken_session (Loaded j) fates) (if b then Ok (makes.Search (n - j.steps)) else Err (answer.Refused Range))).left.state) e
 
-  is_begun : (j : JobValue) (fates : List Fate) → is_requested j ≡ true → left_by (unbroken_session (Loaded j) fates) ≡ (executed_all (unbroken_session (Loaded j) fates) (searches (n - j.steps))).left.state
+  is_begun : (j : JobValue) (fates : List Fate) → is_requested j ≡ true → left_by (unbroken_session (Loaded j) fates) ≡ (operations_reply (unbroken_session (Loaded j) fates) (searches (n - j.steps))).left.state
   is_begun j fates e = ap (λ b. (steps_or_refusal (unbroken_session (Loaded j) fates) (if b then Ok (makes.Search (n - j.steps)) else Err (answer.Refused Range))).left.state) e
 
   all_of : (j : JobValue) → AreSearches j (n - j.steps) (searches (n - j.steps))

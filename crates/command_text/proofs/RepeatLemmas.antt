@@ -64,8 +64,8 @@ use Rattle.command_text.specs.Answering.{
   ServerState,
   unbroken_session,
   by_fate,
-  executed,
-  executed_all,
+  operation_reply,
+  operations_reply,
   commands_of,
   steps_or_refusal,
   next_fate,
@@ -78,7 +78,7 @@ use Rattle.command_text.specs.Answering.{
 use Rattle.command_text.specs.Laws.{StagedLinesMayBeCut}
 use Rattle.command_text.specs.declared.steps.StepRequest.TheVariants as goal
 use Rattle.command_text.specs.declared.steps.StepCursor.TheVariants as makes
-use Rattle.command_text.specs.Staging.{hundredths_due, made_by, making, next_deviation, next_steps, set_before, stage_commands, staged_within}
+use Rattle.command_text.specs.Staging.{hundredths_due, made_by, next_operations, next_deviation, next_steps, set_before, stage_commands, staged_within}
 use Rattle.command_text.proofs.StagingLemmas.{due, no_load, none_is, some_is, stages_may_be_cut}
 
 -- ---- the executed operations are a prefix of the operations
@@ -108,27 +108,27 @@ broken_cut true s cs x y a b = a
 broken_cut false s cs x y a b = b
 
 carried_cut : (s : ServerState) (c : Command) (cs : List Command) (done : ServerState → Reply) → ((t : ServerState) → IsCutAt t.state cs (done t).left.state)
-    → IsCutAt s.state (c ∷ cs) (executed s c done).left.state
-unfolding executed
+    → IsCutAt s.state (c ∷ cs) (operation_reply s c done).left.state
+unfolding operation_reply
 carried_cut s c cs done rest =
     broken_cut s.is_broken s (c ∷ cs) _ (unless_refused (refusal s.state c) s c done) (at_none s.state (c ∷ cs)) (refused_cut (refusal s.state c) s c cs done rest)
 
-pub all_cut : (s : ServerState) (cs : List Command) → IsCutAt s.state cs (executed_all s cs).left.state
-unfolding executed_all
+pub all_cut : (s : ServerState) (cs : List Command) → IsCutAt s.state cs (operations_reply s cs).left.state
+unfolding operations_reply
 all_cut s [] = at_none s.state []
-all_cut s (c ∷ cs) = carried_cut s c cs (λ t. with_text (printed_after c t.state) (executed_all t cs)) (λ t. all_cut t cs)
+all_cut s (c ∷ cs) = carried_cut s c cs (λ t. with_text (printed_after c t.state) (operations_reply t cs)) (λ t. all_cut t cs)
 
 -- ---- if all operations are accepted and no attempt fails, all are executed
 
-carried_whole : (s : State) (c : Command) (done : ServerState → Reply) → refusal s c ≡ None → (executed (unbroken_session s []) c done).left ≡ (done (unbroken_session (effect s c) [])).left
-unfolding executed
+carried_whole : (s : State) (c : Command) (done : ServerState → Reply) → refusal s c ≡ None → (operation_reply (unbroken_session s []) c done).left ≡ (done (unbroken_session (effect s c) [])).left
+unfolding operation_reply
 carried_whole s c done free = ap (λ r. (unless_refused r (unbroken_session s []) c done).left) free
 
-pub all_whole : (s : State) (cs : List Command) → AreAccepted s cs → (executed_all (unbroken_session s []) cs).left.state ≡ after s cs
-unfolding executed_all
+pub all_whole : (s : State) (cs : List Command) → AreAccepted s cs → (operations_reply (unbroken_session s []) cs).left.state ≡ after s cs
+unfolding operations_reply
 all_whole s [] accepted = refl
 all_whole s (c ∷ cs) accepted =
-    ap (λ (t : ServerState). t.state) (carried_whole s c (λ t. with_text (printed_after c t.state) (executed_all t cs)) accepted.1) ∙ all_whole (effect s c) cs accepted.2
+    ap (λ (t : ServerState). t.state) (carried_whole s c (λ t. with_text (printed_after c t.state) (operations_reply t cs)) accepted.1) ∙ all_whole (effect s c) cs accepted.2
 
 -- ---- the operations never lower the number of steps
 
@@ -203,7 +203,7 @@ module _ (from to : ℕ) where
   unfolding staged_within
   all_fit zero j = none_fit j
   all_fit (suc f) j =
-      set_fit (making from to (staged_within from to f)) (λ i. made_fit (staged_within from to f) (all_fit f) i (next_steps from to i) refl) j (next_deviation from to j) refl
+      set_fit (next_operations from to (staged_within from to f)) (λ i. made_fit (staged_within from to f) (all_fit f) i (next_steps from to i) refl) j (next_deviation from to j) refl
 
   pub stages_accepted : to ≤ 2 ^ 60 → (j : JobValue) → AreAccepted (Loaded j) (stage_commands from to j)
   stages_accepted room j = (all_fit (suc (to - j.steps)) j).accepted room
@@ -222,7 +222,7 @@ module _ (from to : ℕ) where
   not_begun : (j : JobValue) (fates : List Fate) → is_requested j ≡ false → left_by (unbroken_session (Loaded j) fates) ≡ Loaded j
   not_begun j fates e = ap (λ b. (steps_or_refusal (unbroken_session (Loaded j) fates) (if b then Ok (makes.Stages from to) else Err (answer.Refused Range))).left.state) e
 
-  is_begun : (j : JobValue) (fates : List Fate) → is_requested j ≡ true → left_by (unbroken_session (Loaded j) fates) ≡ (executed_all (unbroken_session (Loaded j) fates) (stage_commands from to j)).left.state
+  is_begun : (j : JobValue) (fates : List Fate) → is_requested j ≡ true → left_by (unbroken_session (Loaded j) fates) ≡ (operations_reply (unbroken_session (Loaded j) fates) (stage_commands from to j)).left.state
   is_begun j fates e = ap (λ b. (steps_or_refusal (unbroken_session (Loaded j) fates) (if b then Ok (makes.Stages from to) else Err (answer.Refused Range))).left.state) e
 
   pub uncut : to ≤ 2 ^ 60 → (j : JobValue) → is_requested j ≡ true → left_by (unbroken_session (Loaded j) []) ≡ after (Loaded j) (stage_commands from to j)

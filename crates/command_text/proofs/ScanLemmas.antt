@@ -36,7 +36,7 @@ use Rattle.std.proofs.lemmas.List.{get_or_at}
 use Rattle.std.proofs.Math.Seq.{take-append_seam}
 use Rattle.text_lines.specs.Words.{LinesSplitIntoWords, EndsWord, ConsistsOfWords, IsWord, is_blank, is_blank_line, words_of}
 use Rattle.command_text.specs.Parsing.{announces_text}
-use Rattle.command_text.specs.Scanning.{next_letter, is_announcement, scanned, scanned_on, scanned_byte}
+use Rattle.command_text.specs.Scanning.{next_letter, is_announcement, scan_of, scanned_on, scanned_byte}
 use Rattle.command_text.specs.declared.first_word.FirstWord.{FirstWord}
 use Rattle.command_text.specs.declared.first_word.FirstWord.TheVariants.{Nothing, L, Lo, Loa, A, Ad, Ado, Adop, Whole, WholeAndReturn, Over, Other}
 
@@ -165,17 +165,17 @@ whole_word (a ∷ word) rest is ends =
     ap (λ w. is_whole (scanned_on w (word ++ rest))) (first_letter a is.1.0) ∙ by_letter word rest is.1.1 ends (a == 108) (a == 97) apart
     ∙ ap (λ t. either t (a == 97) word) (turned a 108) ∙ ap (λ t. either (108 == a) t word) (turned a 97)
 
-blanks : (gap : List ℕ) → is_blank_line gap ≡ true → scanned gap ≡ Nothing
+blanks : (gap : List ℕ) → is_blank_line gap ≡ true → scan_of gap ≡ Nothing
 blanks [] all = refl
 blanks (b ∷ bs) all = elim (cases_Bool (is_blank b)) [
   | inl t ↦ rw t (blanks bs (rw t at all))
   | inr f ↦ absurd (both_ways (is_blank_line (b ∷ bs)) (ap (λ t. t && is_blank_line bs) f) all)
 ]
 
-made : (line : List ℕ) (words : List (List ℕ)) → ConsistsOfWords line words → is_whole (scanned line) ≡ announces_text words
+made : (line : List ℕ) (words : List (List ℕ)) → ConsistsOfWords line words → is_whole (scan_of line) ≡ announces_text words
 made line [] is = ap is_whole (blanks line is)
 made line (word ∷ words) is =
-    ap (λ l. is_whole (scanned l)) is.2 ∙ ap is_whole (scanned_append Nothing is.0 (word ++ is.1)) ∙ ap (λ w. is_whole (scanned_on w (word ++ is.1))) (blanks is.0 is.3)
+    ap (λ l. is_whole (scan_of l)) is.2 ∙ ap is_whole (scanned_append Nothing is.0 (word ++ is.1)) ∙ ap (λ w. is_whole (scanned_on w (word ++ is.1))) (blanks is.0 is.3)
     ∙ whole_word word is.1 is.4 is.5
 
 -- ---- a carriage return at the end of the line
@@ -231,21 +231,21 @@ stripped prefix b =
     ∙ ap (λ x. if x == 13 then take (length prefix) line else line) (get_or_at prefix b [] 0 (length prefix) refl)
     ∙ ap (λ f. if b == 13 then f else line) (take-append_seam prefix (b ∷ []))
 
-at_end : (prefix : List ℕ) (b : ℕ) → is_announcement (scanned (prefix ++ b ∷ [])) ≡ is_whole (scanned (strip_carriage_return (prefix ++ b ∷ [])))
+at_end : (prefix : List ℕ) (b : ℕ) → is_announcement (scan_of (prefix ++ b ∷ [])) ≡ is_whole (scan_of (strip_carriage_return (prefix ++ b ∷ [])))
 at_end prefix b = elim (cases_Bool (b == 13)) [
   | inl t ↦ (
-      ap is_announcement (scanned_append Nothing prefix (b ∷ [])) ∙ ap (λ c. is_announcement (scanned_byte (scanned prefix) c)) (eqb-true b 13 t) ∙ with_return (scanned prefix)
-      ∙ sym (ap (λ l. is_whole (scanned l)) (stripped prefix b ∙ ap (λ t. if t then prefix else prefix ++ b ∷ []) t)))
+      ap is_announcement (scanned_append Nothing prefix (b ∷ [])) ∙ ap (λ c. is_announcement (scanned_byte (scan_of prefix) c)) (eqb-true b 13 t) ∙ with_return (scan_of prefix)
+      ∙ sym (ap (λ l. is_whole (scan_of l)) (stripped prefix b ∙ ap (λ t. if t then prefix else prefix ++ b ∷ []) t)))
   | inr f ↦ (
-      ap is_announcement (scanned_append Nothing prefix (b ∷ [])) ∙ no_return (scanned prefix) b f ∙ sym (ap is_whole (scanned_append Nothing prefix (b ∷ [])))
-      ∙ sym (ap (λ l. is_whole (scanned l)) (stripped prefix b ∙ ap (λ t. if t then prefix else prefix ++ b ∷ []) f)))
+      ap is_announcement (scanned_append Nothing prefix (b ∷ [])) ∙ no_return (scan_of prefix) b f ∙ sym (ap is_whole (scanned_append Nothing prefix (b ∷ [])))
+      ∙ sym (ap (λ l. is_whole (scan_of l)) (stripped prefix b ∙ ap (λ t. if t then prefix else prefix ++ b ∷ []) f)))
 ]
 
-without_return : (piece : List ℕ) → is_announcement (scanned piece) ≡ is_whole (scanned (strip_carriage_return piece))
+without_return : (piece : List ℕ) → is_announcement (scan_of piece) ≡ is_whole (scan_of (strip_carriage_return piece))
 without_return [] = refl
-without_return (b ∷ bs) = let e = ending b bs in subst (λ l. is_announcement (scanned l) ≡ is_whole (scanned (strip_carriage_return l))) (sym e.whole) (at_end e.prefix e.byte)
+without_return (b ∷ bs) = let e = ending b bs in subst (λ l. is_announcement (scan_of l) ≡ is_whole (scan_of (strip_carriage_return l))) (sym e.whole) (at_end e.prefix e.byte)
 
-pub says_first_word : LinesSplitIntoWords → (piece : List ℕ) → is_announcement (scanned piece) ≡ announces_text (words_of (strip_carriage_return piece))
+pub says_first_word : LinesSplitIntoWords → (piece : List ℕ) → is_announcement (scan_of piece) ≡ announces_text (words_of (strip_carriage_return piece))
 says_first_word made_of piece =
     let line = strip_carriage_return piece in
     without_return piece ∙ made line (words_of line) ((made_of line (words_of line)).0 refl)

@@ -25,7 +25,7 @@ use Rattle.command_text.specs.Staging.{
   first_anneal_end,
   halfway,
   made_by,
-  making,
+  next_operations,
   next_deviation,
   next_steps,
   set_before,
@@ -228,7 +228,7 @@ module _ (from to : ℕ) where
       → staged_within from to (suc f) j ≡ staged_within from to (suc g) j
   unfolding staged_within
   one_more f g j rest =
-      same_set (making from to (staged_within from to f)) (making from to (staged_within from to g)) (next_deviation from to j) j
+      same_set (next_operations from to (staged_within from to f)) (next_operations from to (staged_within from to g)) (next_deviation from to j) j
       (λ i same. same_made (staged_within from to f) (staged_within from to g) i (next_steps from to i) (λ c e. rest i c same e))
 
   enough : (f g : ℕ) (j : JobValue) → to - j.steps ≤ f → to - j.steps ≤ g → staged_within from to (suc f) j ≡ staged_within from to (suc g) j
@@ -254,11 +254,11 @@ module _ (from to : ℕ) where
   -- if a deviation is set before the next steps, it comes first
   pub next_set : (j : JobValue) (d : ℕ) → next_deviation from to j ≡ Some d → stage_commands from to j ≡ Deviation d ∷ commands_in_stage from to (with_deviation j d)
   unfolding staged_within
-  next_set j d e = ap (λ o. set_before (making from to (staged_within from to (to - j.steps))) o j) e
+  next_set j d e = ap (λ o. set_before (next_operations from to (staged_within from to (to - j.steps))) o j) e
 
   pub none_set : (j : JobValue) → next_deviation from to j ≡ None → stage_commands from to j ≡ commands_in_stage from to j
   unfolding staged_within
-  none_set j e = ap (λ o. set_before (making from to (staged_within from to (to - j.steps))) o j) e
+  none_set j e = ap (λ o. set_before (next_operations from to (staged_within from to (to - j.steps))) o j) e
 
   -- ---- a list of operations that is cut anywhere
 

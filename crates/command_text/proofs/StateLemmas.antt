@@ -19,23 +19,23 @@ use Rattle.command_text.specs.Answering.{
   Failed,
   ServerState,
   Reply,
-  answered,
+  answer_reply,
   by_fate,
-  executed,
+  operation_reply,
   question_reply,
   load,
-  loaded,
+  load_text_reply,
   next_fate,
   next_reply,
   command_reply,
   print_reply,
-  refused,
+  refusal_reply,
   reply,
   steps_to_make,
   commands_of,
-  executed_all,
+  operations_reply,
   steps_or_refusal,
-  served,
+  pieces_reply,
   show_reply,
   text_then_ok,
   printed_after,
@@ -47,7 +47,7 @@ use Rattle.command_text.specs.Answering.{
   instance_reply,
   adopt,
   adopt_on,
-  adopted,
+  adopt_text_reply,
   adopted_unless,
   text_reply,
 }
@@ -86,14 +86,14 @@ unless : (r : Option Refusal) (s : ServerState) (c : Command) (done : ServerStat
 unless (Some r) s c done follows = refl
 unless None s c done follows = with_fate (next_fate s.fates) (after_attempt s) c done follows
 
-carries : (s : ServerState) (c : Command) (done : ServerState → Reply) → ((t : ServerState) → Follows t (done t)) → Follows s (executed s c done)
-unfolding executed
-carries s c done follows = one_of s.is_broken s (answered s answer.Broken) (unless_refused (refusal s.state c) s c done) refl (unless (refusal s.state c) s c done follows)
+carries : (s : ServerState) (c : Command) (done : ServerState → Reply) → ((t : ServerState) → Follows t (done t)) → Follows s (operation_reply s c done)
+unfolding operation_reply
+carries s c done follows = one_of s.is_broken s (answer_reply s answer.Broken) (unless_refused (refusal s.state c) s c done) refl (unless (refusal s.state c) s c done follows)
 
-carries_all : (s : ServerState) (cs : List Command) → Follows s (executed_all s cs)
-unfolding executed_all
+carries_all : (s : ServerState) (cs : List Command) → Follows s (operations_reply s cs)
+unfolding operations_reply
 carries_all s [] = refl
-carries_all s (c ∷ cs) = carries s c (λ t. with_text (printed_after c t.state) (executed_all t cs)) (λ t. carries_all t cs)
+carries_all s (c ∷ cs) = carries s c (λ t. with_text (printed_after c t.state) (operations_reply t cs)) (λ t. carries_all t cs)
 
 makes_or : (s : ServerState) (steps : Result StepCursor Answer) → Follows s (steps_or_refusal s steps)
 makes_or s (Ok steps) = carries_all s (commands_of steps s.state)
@@ -112,12 +112,12 @@ shows s (Loaded j) = text_follows (next_fate s.fates) (after_attempt s) (show_te
 prints : (s : ServerState) (state : State) → Follows s (print_reply s state)
 prints s Empty = refl
 prints s (Loaded j) =
-    one_of (unplanned_count j.problem j.plan == 0) s (text_then_ok (next_fate s.fates) (after_attempt s) (print_text j)) (answered s answer.Unplanned) (text_follows (next_fate s.fates) (after_attempt s) (print_text j)) refl
+    one_of (unplanned_count j.problem j.plan == 0) s (text_then_ok (next_fate s.fates) (after_attempt s) (print_text j)) (answer_reply s answer.Unplanned) (text_follows (next_fate s.fates) (after_attempt s) (print_text j)) refl
 
 instance_follows : (s : ServerState) (state : State) → Follows s (instance_reply s state)
 instance_follows s Empty = refl
 instance_follows s (Loaded j) =
-    one_of (has_format j.problem) s (text_then_ok (next_fate s.fates) (after_attempt s) (instance_text j.problem)) (answered s answer.NoFormat)
+    one_of (has_format j.problem) s (text_then_ok (next_fate s.fates) (after_attempt s) (instance_text j.problem)) (answer_reply s answer.NoFormat)
     (text_follows (next_fate s.fates) (after_attempt s) (instance_text j.problem)) refl
 
 text_unless_follows : (r : Option Refusal) (s : ServerState) (text : List ℕ) → Follows s (text_unless r s text)
@@ -132,12 +132,12 @@ states_next : (s : ServerState) (state : State) → Follows s (next_reply s stat
 states_next s Empty = refl
 states_next s (Loaded j) = refl
 
-refuses : (s : ServerState) (state : State) (r : Refusal) → Follows s (refused s state r)
+refuses : (s : ServerState) (state : State) (r : Refusal) → Follows s (refusal_reply s state r)
 refuses s Empty r = refl
 refuses s (Loaded j) r = refl
 
-is_loaded : (s : ServerState) (seed : ℕ) (found : Result Instance ReadFault) → Follows s (loaded s seed found)
-is_loaded s seed (Ok p) = with_fate (next_fate s.fates) (after_attempt s) (command.Load p seed) (λ t. answered t answer.Ok) (λ t. refl)
+is_loaded : (s : ServerState) (seed : ℕ) (found : Result Instance ReadFault) → Follows s (load_text_reply s seed found)
+is_loaded s seed (Ok p) = with_fate (next_fate s.fates) (after_attempt s) (command.Load p seed) (λ t. answer_reply t answer.Ok) (λ t. refl)
 is_loaded s seed (Err fault) = refl
 
 loads : (fate : Fate) (s : ServerState) (seed : ℕ) (found : Result Instance ReadFault) → Follows s (load fate s seed found)
@@ -148,9 +148,9 @@ loads Failed s seed found = is_loaded s seed found
 
 adopts_unless : (r : Option Refusal) (s : ServerState) (plan : Plan) → Follows s (adopted_unless r s plan)
 adopts_unless (Some r) s plan = refl
-adopts_unless None s plan = with_fate (next_fate s.fates) (after_attempt s) (command.Adopt plan) (λ t. answered t answer.Ok) (λ t. refl)
+adopts_unless None s plan = with_fate (next_fate s.fates) (after_attempt s) (command.Adopt plan) (λ t. answer_reply t answer.Ok) (λ t. refl)
 
-is_adopted : (s : ServerState) (found : Result Plan AssignmentFault) → Follows s (adopted s found)
+is_adopted : (s : ServerState) (found : Result Plan AssignmentFault) → Follows s (adopt_text_reply s found)
 is_adopted s (Ok plan) = adopts_unless (refusal s.state (command.Adopt plan)) s plan
 is_adopted s (Err why) = refl
 
@@ -169,7 +169,7 @@ takes reading (purpose.Load format seed) text s = loads (next_fate s.fates) s se
 takes reading purpose.Adopt text s = adopts_on reading text s s.state
 
 unbroken : (s : ServerState) (r : Reply) → Follows s r → Follows s (unless_broken s r)
-unbroken s r follows = one_of s.is_broken s (answered s answer.Broken) r refl follows
+unbroken s r follows = one_of s.is_broken s (answer_reply s answer.Broken) r refl follows
 
 answers : (reading : Reading) (s : ServerState) (a : ParsedCommand) (text : List ℕ) (short : Bool) → Follows s (command_reply reading s a text short)
 answers reading s Nothing text short = refl
@@ -177,10 +177,10 @@ answers reading s BadLine text short = refl
 answers reading s BadText text short = refl
 answers reading s TextRange text short = refl
 answers reading s (Text purpose len) text short =
-    one_of short s (answered s answer.Truncated) (unless_broken s (text_reply reading purpose text s)) refl
+    one_of short s (answer_reply s answer.Truncated) (unless_broken s (text_reply reading purpose text s)) refl
     (unbroken s (text_reply reading purpose text s) (takes reading purpose text s))
-answers reading s (Plain c) text short = carries s c (λ t. answered t answer.Ok) (λ t. refl)
-answers reading s (Refused r) text short = unbroken s (refused s s.state r) (refuses s s.state r)
+answers reading s (Plain c) text short = carries s c (λ t. answer_reply t answer.Ok) (λ t. refl)
+answers reading s (Refused r) text short = unbroken s (refusal_reply s s.state r) (refuses s s.state r)
 answers reading s (Steps g) text short = unbroken s (steps_or_refusal s (steps_to_make s.state g)) (makes_or s (steps_to_make s.state g))
 answers reading s Print text short = unbroken s (print_reply s s.state) (prints s s.state)
 answers reading s PrintInstance text short = unbroken s (instance_reply s s.state) (instance_follows s s.state)
@@ -198,9 +198,9 @@ after_both s [] ds = refl
 after_both s (c ∷ cs) ds = after_both (effect s c) cs ds
 
 pub follow : StatesFollow
-unfolding served
+unfolding pieces_reply
 follow reading s [] = refl
 follow reading s (p ∷ ps) =
     let r = reply reading s p in
-    let q = served reading r.left ps in
+    let q = pieces_reply reading r.left ps in
     follow reading r.left ps ∙ ap (λ t. after t q.commands) (replies reading s p) ∙ sym (after_both s.state r.commands q.commands)

@@ -75,8 +75,8 @@ pub record Reply : Type 0 where
   pub left : ServerState
 
 -- The reply that consists of this answer and executes nothing.
-abbrev pub answered : ServerState → Answer → Reply
-answered s a = record { text = line (answer_text a); commands = []; left = s }
+abbrev pub answer_reply : ServerState → Answer → Reply
+answer_reply s a = record { text = line (answer_text a); commands = []; left = s }
 
 -- The session after an attempt, whose fate is used up.
 abbrev pub after_attempt : ServerState → ServerState
@@ -97,23 +97,23 @@ joined_replies r q = record { text = r.text ++ q.text; commands = r.commands ++ 
 -- The reply to an accepted operation, by its fate. `done` returns the reply once the operation is executed.
 abbrev pub by_fate : Fate → ServerState → Command → (ServerState → Reply) → Reply
 by_fate Done s c done = with_command c (done (record s { state = effect s.state c }))
-by_fate NoMemory s c done = answered s (answer.Refused OutOfMemory)
-by_fate Spent s c done = answered s answer.Spent
-by_fate Failed s c done = answered (record s { is_broken = true }) answer.DeviceFault
+by_fate NoMemory s c done = answer_reply s (answer.Refused OutOfMemory)
+by_fate Spent s c done = answer_reply s answer.Spent
+by_fate Failed s c done = answer_reply (record s { is_broken = true }) answer.DeviceFault
 
 -- The reply to an operation that the state refuses for this reason, or else accepts.
 abbrev pub unless_refused : Option Refusal → ServerState → Command → (ServerState → Reply) → Reply
-unless_refused (Some r) s c done = answered s (answer.Refused r)
+unless_refused (Some r) s c done = answer_reply s (answer.Refused r)
 unless_refused None s c done = by_fate (next_fate s.fates) (after_attempt s) c done
 
 -- The reply to an operation: `no Broken` after a failed device, otherwise the state's refusal, otherwise the
 -- reply by its fate.
-unfoldable pub executed : ServerState → Command → (ServerState → Reply) → Reply
-executed s c done = if s.is_broken then answered s answer.Broken else unless_refused (refusal s.state c) s c done
+unfoldable pub operation_reply : ServerState → Command → (ServerState → Reply) → Reply
+operation_reply s c done = if s.is_broken then answer_reply s answer.Broken else unless_refused (refusal s.state c) s c done
 
 -- The reply to a command with one operation.
 abbrev pub plain : ServerState → Command → Reply
-plain s c = executed s c (λ t. answered t answer.Ok)
+plain s c = operation_reply s c (λ t. answer_reply t answer.Ok)
 
 -- The line `at STEPS UNPLANNED VEHICLES DISTANCE` of a loaded state.
 abbrev pub at_line : State → List ℕ
@@ -136,9 +136,9 @@ abbrev pub printed_after : Command → State → List ℕ
 printed_after c state = progress_text (progress_after c) state
 
 -- The reply to these operations, one after another, and `ok` after the last one.
-unfoldable pub executed_all : ServerState → List Command → Reply
-executed_all s [] = answered s answer.Ok
-executed_all s (c ∷ cs) = executed s c (λ t. with_text (printed_after c t.state) (executed_all t cs))
+unfoldable pub operations_reply : ServerState → List Command → Reply
+operations_reply s [] = answer_reply s answer.Ok
+operations_reply s (c ∷ cs) = operation_reply s c (λ t. with_text (printed_after c t.state) (operations_reply t cs))
 
 -- The step counts of the operations that make n steps: `most` for each operation except the last, which makes
 -- the rest.
@@ -191,86 +191,86 @@ steps_to_make (Loaded j) g = steps_from j g
 
 -- The reply to a command that makes these steps or pins, or is refused.
 abbrev pub steps_or_refusal : ServerState → Result StepCursor Answer → Reply
-steps_or_refusal s (Ok steps) = executed_all s (commands_of steps s.state)
-steps_or_refusal s (Err a) = answered s a
+steps_or_refusal s (Ok steps) = operations_reply s (commands_of steps s.state)
+steps_or_refusal s (Err a) = answer_reply s a
 
 -- The reply to a command with a number that its field can't hold: this refusal, or `NoInstance` before the first
 -- `load`.
-abbrev pub refused : ServerState → State → Refusal → Reply
-refused s Empty r = answered s (answer.Refused NoInstance)
-refused s (Loaded j) r = answered s (answer.Refused r)
+abbrev pub refusal_reply : ServerState → State → Refusal → Reply
+refusal_reply s Empty r = answer_reply s (answer.Refused NoInstance)
+refusal_reply s (Loaded j) r = answer_reply s (answer.Refused r)
 
 -- A text that needs memory and then `ok`, or `OutOfMemory`, by the fate of the attempt.
 abbrev pub text_then_ok : Fate → ServerState → List ℕ → Reply
-text_then_ok NoMemory s text = answered s (answer.Refused OutOfMemory)
-text_then_ok _ s text = with_text text (answered s answer.Ok)
+text_then_ok NoMemory s text = answer_reply s (answer.Refused OutOfMemory)
+text_then_ok _ s text = with_text text (answer_reply s answer.Ok)
 
 -- The reply to `show`.
 abbrev pub show_reply : ServerState → State → Reply
-show_reply s Empty = answered s (answer.Refused NoInstance)
+show_reply s Empty = answer_reply s (answer.Refused NoInstance)
 show_reply s (Loaded j) = text_then_ok (next_fate s.fates) (after_attempt s) (show_text j)
 
 -- The reply to `print`: the solution, or `no Unplanned` if a request is in no route.
 abbrev pub print_reply : ServerState → State → Reply
-print_reply s Empty = answered s (answer.Refused NoInstance)
+print_reply s Empty = answer_reply s (answer.Refused NoInstance)
 print_reply s (Loaded j) =
-    if unplanned_count j.problem j.plan == 0 then text_then_ok (next_fate s.fates) (after_attempt s) (print_text j) else answered s answer.Unplanned
+    if unplanned_count j.problem j.plan == 0 then text_then_ok (next_fate s.fates) (after_attempt s) (print_text j) else answer_reply s answer.Unplanned
 
 -- The reply to `instance`: the problem as an instance, or `no NoFormat` if no format can express it.
 abbrev pub instance_reply : ServerState → State → Reply
-instance_reply s Empty = answered s (answer.Refused NoInstance)
-instance_reply s (Loaded j) = if has_format j.problem then text_then_ok (next_fate s.fates) (after_attempt s) (instance_text j.problem) else answered s answer.NoFormat
+instance_reply s Empty = answer_reply s (answer.Refused NoInstance)
+instance_reply s (Loaded j) = if has_format j.problem then text_then_ok (next_fate s.fates) (after_attempt s) (instance_text j.problem) else answer_reply s answer.NoFormat
 
 -- The reply to a question: this refusal, or else the text.
 abbrev pub text_unless : Option Refusal → ServerState → List ℕ → Reply
-text_unless (Some r) s text = answered s (answer.Refused r)
+text_unless (Some r) s text = answer_reply s (answer.Refused r)
 text_unless None s text = text_then_ok (next_fate s.fates) (after_attempt s) text
 
 -- The reply to `timetable` or `why`.
 abbrev pub question_reply : Question → ServerState → State → Reply
-question_reply q s Empty = answered s (answer.Refused NoInstance)
+question_reply q s Empty = answer_reply s (answer.Refused NoInstance)
 question_reply q s (Loaded j) = text_unless (question_refusal j q) s (question_text j q)
 
 -- A line that needs no memory, and then `ok`.
 abbrev pub line_then_ok : ServerState → List ℕ → Reply
-line_then_ok s text = with_text (line text) (answered s answer.Ok)
+line_then_ok s text = with_text (line text) (answer_reply s answer.Ok)
 
 -- The reply to `next`.
 abbrev pub next_reply : ServerState → State → Reply
-next_reply s Empty = answered s (answer.Refused NoInstance)
+next_reply s Empty = answer_reply s (answer.Refused NoInstance)
 next_reply s (Loaded j) = line_then_ok s (next_text j)
 
 -- The reply to `load` after its text was read: the operation that loads the problem, or the first fault of the
 -- text.
-abbrev pub loaded : ServerState → ℕ → Result Instance ReadFault → Reply
-loaded s seed (Ok p) = by_fate (next_fate s.fates) (after_attempt s) (command.Load p seed) (λ t. answered t answer.Ok)
-loaded s seed (Err fault) = answered (after_attempt s) (answer.Read fault)
+abbrev pub load_text_reply : ServerState → ℕ → Result Instance ReadFault → Reply
+load_text_reply s seed (Ok p) = by_fate (next_fate s.fates) (after_attempt s) (command.Load p seed) (λ t. answer_reply t answer.Ok)
+load_text_reply s seed (Err fault) = answer_reply (after_attempt s) (answer.Read fault)
 
 -- The reply to `load`, by the fate of reading its text. Out of memory is reported before a fault of the text.
 abbrev pub load : Fate → ServerState → ℕ → Result Instance ReadFault → Reply
-load NoMemory s seed found = answered (after_attempt s) (answer.Refused OutOfMemory)
-load _ s seed found = loaded s seed found
+load NoMemory s seed found = answer_reply (after_attempt s) (answer.Refused OutOfMemory)
+load _ s seed found = load_text_reply s seed found
 
 -- The reply to `adopt` with a plan that was read, which the state refuses for this reason or else accepts.
 -- Reading the text was an attempt of its own.
 abbrev pub adopted_unless : Option Refusal → ServerState → Plan → Reply
-adopted_unless (Some r) s plan = answered (after_attempt s) (answer.Refused r)
-adopted_unless None s plan = by_fate (next_fate s.fates) (after_attempt s) (command.Adopt plan) (λ t. answered t answer.Ok)
+adopted_unless (Some r) s plan = answer_reply (after_attempt s) (answer.Refused r)
+adopted_unless None s plan = by_fate (next_fate s.fates) (after_attempt s) (command.Adopt plan) (λ t. answer_reply t answer.Ok)
 
 -- The reply to `adopt` after its text was read: the operation that adopts the plan, or the reason why there is
 -- no plan.
-abbrev pub adopted : ServerState → Result Plan AssignmentFault → Reply
-adopted s (Ok plan) = adopted_unless (refusal s.state (command.Adopt plan)) s plan
-adopted s (Err why) = answered (after_attempt s) (answer.AssignmentFault why)
+abbrev pub adopt_text_reply : ServerState → Result Plan AssignmentFault → Reply
+adopt_text_reply s (Ok plan) = adopted_unless (refusal s.state (command.Adopt plan)) s plan
+adopt_text_reply s (Err why) = answer_reply (after_attempt s) (answer.AssignmentFault why)
 
 -- The reply to `adopt`, by the fate of reading its text. Out of memory is reported before a fault of the text.
 abbrev pub adopt : Fate → ServerState → Result Plan AssignmentFault → Reply
-adopt NoMemory s found = answered (after_attempt s) (answer.Refused OutOfMemory)
-adopt _ s found = adopted s found
+adopt NoMemory s found = answer_reply (after_attempt s) (answer.Refused OutOfMemory)
+adopt _ s found = adopt_text_reply s found
 
 -- The reply to `adopt` in this state, by what its text contains for the problem and the pins of the state.
 abbrev pub adopt_on : Reading → List ℕ → ServerState → State → Reply
-adopt_on reading text s Empty = answered s (answer.Refused NoInstance)
+adopt_on reading text s Empty = answer_reply s (answer.Refused NoInstance)
 adopt_on reading text s (Loaded j) = adopt (next_fate s.fates) s (reading.plan j.problem j.pins text)
 
 -- The reply to a command that announces a text, by its purpose and its text.
@@ -280,17 +280,17 @@ text_reply reading purpose.Adopt text s = adopt_on reading text s s.state
 
 -- This reply, or `no Broken` after a failed device.
 abbrev pub unless_broken : ServerState → Reply → Reply
-unless_broken s r = if s.is_broken then answered s answer.Broken else r
+unless_broken s r = if s.is_broken then answer_reply s answer.Broken else r
 
 -- The reply to a parsed line with its text. `short` says whether announced bytes are missing.
 abbrev pub command_reply : Reading → ServerState → ParsedCommand → List ℕ → Bool → Reply
 command_reply reading s Nothing text short = record { text = []; commands = []; left = s }
-command_reply reading s BadLine text short = answered s answer.BadLine
-command_reply reading s BadText text short = answered s answer.BadLine
-command_reply reading s TextRange text short = answered s (answer.Refused Range)
-command_reply reading s (Text purpose len) text short = if short then answered s answer.Truncated else unless_broken s (text_reply reading purpose text s)
+command_reply reading s BadLine text short = answer_reply s answer.BadLine
+command_reply reading s BadText text short = answer_reply s answer.BadLine
+command_reply reading s TextRange text short = answer_reply s (answer.Refused Range)
+command_reply reading s (Text purpose len) text short = if short then answer_reply s answer.Truncated else unless_broken s (text_reply reading purpose text s)
 command_reply reading s (Plain c) text short = plain s c
-command_reply reading s (Refused r) text short = unless_broken s (refused s s.state r)
+command_reply reading s (Refused r) text short = unless_broken s (refusal_reply s s.state r)
 command_reply reading s (Steps g) text short = unless_broken s (steps_or_refusal s (steps_to_make s.state g))
 command_reply reading s Print text short = unless_broken s (print_reply s s.state)
 command_reply reading s PrintInstance text short = unless_broken s (instance_reply s s.state)
@@ -304,9 +304,9 @@ unfoldable pub reply : Reading → ServerState → Piece → Reply
 reply reading s piece = command_reply reading s piece.requested piece.text (is_short piece)
 
 -- The replies to all pieces, one after another.
-unfoldable pub served : Reading → ServerState → List Piece → Reply
-served reading s [] = record { text = []; commands = []; left = s }
-served reading s (piece ∷ pieces) = let r = reply reading s piece in joined_replies r (served reading r.left pieces)
+unfoldable pub pieces_reply : Reading → ServerState → List Piece → Reply
+pieces_reply reading s [] = record { text = []; commands = []; left = s }
+pieces_reply reading s (piece ∷ pieces) = let r = reply reading s piece in joined_replies r (pieces_reply reading r.left pieces)
 
 -- A session in this state whose device has not failed.
 abbrev pub unbroken_session : State → List Fate → ServerState
@@ -314,8 +314,8 @@ unbroken_session state fates = record { state = state; is_broken = false; fates 
 
 -- The text that is written for an input, if its attempts have these fates.
 abbrev pub texts : Reading → State → List ℕ → List Fate → List ℕ
-texts reading state input fates = (served reading (unbroken_session state fates) (pieces_of input)).text
+texts reading state input fates = (pieces_reply reading (unbroken_session state fates) (pieces_of input)).text
 
 -- The operations that are executed for an input, if its attempts have these fates.
 abbrev pub commands : Reading → State → List ℕ → List Fate → List Command
-commands reading state input fates = (served reading (unbroken_session state fates) (pieces_of input)).commands
+commands reading state input fates = (pieces_reply reading (unbroken_session state fates) (pieces_of input)).commands

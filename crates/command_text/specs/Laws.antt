@@ -9,9 +9,9 @@ use Rattle.command_core.specs.Runs.{after}
 use Rattle.command_types.specs.declared.states.State.{State}
 use Rattle.command_types.specs.declared.states.State.TheVariants.{Loaded}
 use Rattle.instance_read.specs.declared.formats.Format.{Format}
-use Rattle.command_text.specs.Answering.{Fate, ServerState, unbroken_session, commands_of, steps_or_refusal, served, steps_to_make}
-use Rattle.command_text.specs.Parsing.{requested}
-use Rattle.command_text.specs.Cutting.{Piece, announced, ends, pieces_of}
+use Rattle.command_text.specs.Answering.{Fate, ServerState, unbroken_session, commands_of, steps_or_refusal, pieces_reply, steps_to_make}
+use Rattle.command_text.specs.Parsing.{parsed_line}
+use Rattle.command_text.specs.Cutting.{Piece, announced_len, ends, pieces_of}
 use Rattle.command_text.specs.Readings.{IsReading, Reading}
 use Rattle.command_text.specs.Staging.{stage_commands}
 use Rattle.command_text.specs.declared.parsed_command.ParsedCommand.{ParsedCommand}
@@ -21,24 +21,24 @@ use Rattle.command_text.specs.declared.steps.StepCursor.TheVariants as makes
 
 -- The piece of a parsed line. Its announced bytes are the first ones of `rest`, the input after the line feed.
 abbrev pub piece_at : ParsedCommand → List ℕ → Piece
-piece_at a rest = record { requested = a; text = take (announced a) rest }
+piece_at a rest = record { requested = a; text = take (announced_len a) rest }
 
 -- The piece of a line and the pieces after it, unless the rest of the input is not served.
 abbrev pub cut_at : ParsedCommand → List ℕ → List Piece
-cut_at a rest = piece_at a rest ∷ (if ends (piece_at a rest) then [] else pieces_of (drop (announced a) rest))
+cut_at a rest = piece_at a rest ∷ (if ends (piece_at a rest) then [] else pieces_of (drop (announced_len a) rest))
 
 -- Law: a line ends at the first line feed, without the one carriage return before it. The bytes that the line
 -- announces follow, and then the next line.
 abbrev pub PiecesFollow : Type 0
-PiecesFollow = (line rest : List ℕ) → HasNoLineFeed line → pieces_of (line ++ 10 ∷ rest) ≡ cut_at (requested (strip_carriage_return line)) rest
+PiecesFollow = (line rest : List ℕ) → HasNoLineFeed line → pieces_of (line ++ 10 ∷ rest) ≡ cut_at (parsed_line (strip_carriage_return line)) rest
 
 -- Law: at the end of the input, bytes without a line feed are a line if there is at least one.
 abbrev pub PiecesEnd : Type 0
-PiecesEnd = (line : List ℕ) → HasNoLineFeed line → 0 < length line → pieces_of line ≡ piece_at (requested (strip_carriage_return line)) [] ∷ []
+PiecesEnd = (line : List ℕ) → HasNoLineFeed line → 0 < length line → pieces_of line ≡ piece_at (parsed_line (strip_carriage_return line)) [] ∷ []
 
 -- Law: the session ends in the state after the operations that it has executed.
 abbrev pub StatesFollow : Type 0
-StatesFollow = (reading : Reading) (s : ServerState) (pieces : List Piece) → (served reading s pieces).left.state ≡ after s.state (served reading s pieces).commands
+StatesFollow = (reading : Reading) (s : ServerState) (pieces : List Piece) → (pieces_reply reading s pieces).left.state ≡ after s.state (pieces_reply reading s pieces).commands
 
 -- Law: the operations of `anneal FROM TO` may be cut off after any number of them. If the command is then
 -- repeated, it ends in the same state as without the interruption.

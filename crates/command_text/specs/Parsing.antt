@@ -243,6 +243,6 @@ announces_text [] = false
 announces_text (word ∷ words) = bytes_eq (codes "load") word || bytes_eq (codes "adopt") word
 
 -- A line, parsed. A line of more than `MAX_LINE_LEN` bytes is bad, whatever it contains.
-unfoldable pub requested : List ℕ → ParsedCommand
-requested line =
+unfoldable pub parsed_line : List ℕ → ParsedCommand
+parsed_line line =
     if nat_le (length line) MAX_LINE_LEN then parse_words (words_of line) else if announces_text (words_of line) then BadText else BadLine

@@ -29,8 +29,8 @@ scanned_on word [] = word
 scanned_on word (b ∷ bs) = scanned_on (scanned_byte word b) bs
 
 -- The state after these bytes, from the beginning of a line.
-abbrev pub scanned : List ℕ → FirstWord
-scanned bytes = scanned_on Nothing bytes
+abbrev pub scan_of : List ℕ → FirstWord
+scan_of bytes = scanned_on Nothing bytes
 
 -- Whether the first word of a line that ends in this state is `load` or `adopt`.
 abbrev pub is_announcement : FirstWord → Bool

@@ -88,14 +88,14 @@ module _ (from to : ℕ) where
   next_deviation j = option_map (mean_leg_share j.problem j.plan) (hundredths_due j.problem.kind from to j.steps)
 
   -- The operation that makes the next steps, once their deviation is set, and the operations `next` after it.
-  abbrev pub making : (JobValue → List Command) → JobValue → List Command
-  making next j = made_by next (next_steps j) j
+  abbrev pub next_operations : (JobValue → List Command) → JobValue → List Command
+  next_operations next j = made_by next (next_steps j) j
 
   -- The first n operations that make steps, each after the operation that sets its deviation if there is one.
   -- There are fewer than n if the last step comes first.
   unfoldable pub staged_within : ℕ → JobValue → List Command
   staged_within zero j = []
-  staged_within (suc n) j = set_before (making (staged_within n)) (next_deviation j) j
+  staged_within (suc n) j = set_before (next_operations (staged_within n)) (next_deviation j) j
 
   -- All operations that are left. The limit on their number is high enough, since each operation makes at least
   -- one step.
@@ -104,4 +104,4 @@ module _ (from to : ℕ) where
 
   -- All operations that are left, once the deviation of the next steps is set.
   abbrev pub commands_in_stage : JobValue → List Command
-  commands_in_stage j = making (staged_within (to - j.steps)) j
+  commands_in_stage j = next_operations (staged_within (to - j.steps)) j

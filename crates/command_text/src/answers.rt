@@ -8,9 +8,7 @@ ghost use Rattle.command_text.specs.Answering.{progress_after};
 use command_core::{Command, Job, Refusal};
 use instance_read::{ReadFault, ReadFaultKind};
 use itoa::Buffer;
-use plan_audit::passing_is_local;
 use plan_types::Cost;
-use route_sched::plan_cost;
 use sol_text::{SolFault, SolFaultKind};
 use std::marker::Model;
 use vehicle_assignment::AssignmentFault;
@@ -220,19 +218,12 @@ fn broken_line(rule: u32, route: u64, place: u64, stop: u32) -> ShortLine
     line
 }
 
-/// Returns the cost of the incumbent plan.
-pub(crate) fn cost(job: &Job) -> Cost
-    ensures { result ≡ cost_of job.now.problem job.now.plan }
-{
-    passing_is_local();
-    plan_cost(&job.problem, &job.plan)
-}
-
-/// Returns the line with the progress of a command that makes steps: `at STEPS UNPLANNED VEHICLES DISTANCE`.
-pub fn at_line(job: &Job) -> ShortLine
+/// Returns the line with the progress of a command that makes steps: `at STEPS UNPLANNED VEHICLES DISTANCE`. The
+/// cost of the incumbent is known after each operation, so the caller passes it.
+pub fn at_line(job: &Job, cost: Cost) -> ShortLine
+    requires { cost ≡ cost_of job.now.problem job.now.plan }
     ensures { result ≡ at_text job.now }
 {
-    let cost = cost(job);
     let mut line = ShortLine::new();
     line.put("at ");
     line.put_number(job.steps);

@@ -3,7 +3,7 @@ ghost use Rattle.std.specs.Prelude.{◌≡◌, ℕ, List, ◌++◌, []};
 ghost use Rattle.std.specs.Str.Lines.{strip_carriage_return};
 ghost use Rattle.text_lines.specs.Words.{words_of};
 ghost use Rattle.command_text.specs.Parsing.{announces_text};
-ghost use Rattle.command_text.specs.Scanning.{is_announcement, scanned, scanned_byte, scanned_on};
+ghost use Rattle.command_text.specs.Scanning.{is_announcement, scan_of, scanned_byte, scanned_on};
 
 use text_lines::lines_split_into_words;
 
@@ -35,15 +35,15 @@ pub enum FirstWord {
 impl FirstWord {
     /// Returns the state before the first byte.
     pub fn new() -> FirstWord
-        ensures { result ≡ scanned [] }
+        ensures { result ≡ scan_of [] }
     {
         FirstWord::Nothing
     }
 
     /// Returns the state after these bytes are scanned, too.
     pub fn take(self, bytes: &[u8]) -> FirstWord
-        ensures { (before : List ℕ) → self ≡ scanned before
-            → result ≡ scanned (before ++ bytes.now) }
+        ensures { (before : List ℕ) → self ≡ scan_of before
+            → result ≡ scan_of (before ++ bytes.now) }
     {
         self.after_all(bytes)
     }
@@ -82,7 +82,7 @@ impl FirstWord {
     /// Returns whether the line announces a text. All bytes of the line before its line feed must have been
     /// taken.
     pub fn announces_text(self) -> bool
-        ensures { (piece : List ℕ) → self ≡ scanned piece
+        ensures { (piece : List ℕ) → self ≡ scan_of piece
             → result ≡ announces_text (words_of (strip_carriage_return piece)) }
     {
         lines_split_into_words();

@@ -4,7 +4,7 @@ ghost use Rattle.std.specs.Option.{option_map_or};
 ghost use Rattle.text_lines.specs.Words.{words_of};
 ghost use Rattle.text_lines.specs.Numbers.{below};
 ghost use Rattle.command_text.specs.declared.parsed_command.TheConstants.{MAX_TEXT_LEN};
-ghost use Rattle.command_text.specs.Parsing.{adopt_with, announces_text, requested, fields_of, parse_load, load_with, load_within, parse_numbers, text_within, parse_command, parse_words};
+ghost use Rattle.command_text.specs.Parsing.{adopt_with, announces_text, parsed_line, fields_of, parse_load, load_with, load_within, parse_numbers, text_within, parse_command, parse_words};
 
 use crate::fields::{Field, Fields, integers};
 use crate::questions::Question;
@@ -65,9 +65,9 @@ pub enum ParsedCommand {
 }
 
 /// Parses a line, given without its line end. Takes no memory.
-#[tactic(auto, unfolding(crate::specs::Parsing::requested))]
+#[tactic(auto, unfolding(crate::specs::Parsing::parsed_line))]
 pub fn read_line(line: &[u8]) -> ParsedCommand
-    ensures { result ≡ requested line.now }
+    ensures { result ≡ parsed_line line.now }
 {
     let mut words = Words::new(line);
     if line.len() <= MAX_LINE_LEN {

@@ -12,7 +12,6 @@ ghost use Rattle.std.specs.List.{flat_map};
 ghost use Rattle.command_text.specs.Answers.{cost_text, line};
 ghost use Rattle.command_text.specs.Showing.{counts_text, list_text, lists_text, print_text, show_text, solution_of, unplanned_text, work_text};
 
-use crate::answers::cost;
 use command_core::{Job, unplanned_names};
 use instance_text::{WriteFault, write_instance};
 use itoa::Buffer;
@@ -184,9 +183,17 @@ pub fn show(alloc: Global, job: &Job) -> Result<Text, OutOfMemory>
     text.put_lists("pin", job.pins.routes.as_slice())?;
     text.put_lists("vehicle", job.plan.routes.as_slice())?;
     text.put_unplanned(unplanned.as_slice())?;
-    text.put_cost("cost ", cost(job))?;
+    text.put_cost("cost ", incumbent_cost(job))?;
     text.put_work(job)?;
     Ok(text)
+}
+
+// Returns the cost of the incumbent.
+fn incumbent_cost(job: &Job) -> Cost
+    ensures { result ≡ cost_of job.now.problem job.now.plan }
+{
+    passing_is_local();
+    plan_cost(&job.problem, &job.plan)
 }
 
 // Returns the cost of the working plan.

@@ -1,6 +1,7 @@
 -- New routes for some vehicles of a plan.
 use Rattle.std.specs.Prelude.{◌≡◌, ℕ, ◌+◌, ◌==◌, not, ◌≤◌, ◌^◌, if◌then◌else◌, true, false, All, List, [], ◌∷◌, length, filter, map, Option, Some, MatchOption}
 use Rattle.std.specs.List.{AllByRecursion, list_all}
+use Rattle.plan_types.specs.declared.limits.TheConstants.{MAX_FLEET}
 use Rattle.plan_types.specs.Instance.{Instance}
 use Rattle.plan_types.specs.Request.{request_name}
 use Rattle.plan_types.specs.declared.requests.Request.{Request}
@@ -105,7 +106,7 @@ used route = if not (length route == 0) then 1 else 0
 pub record IsInsertable (p : Instance) (pins routes : List (List ℕ)) (r : Request) (x : Insertion) : Type 0 where
   pub from : 1 ≤ x.0
   pub within : x.0 ≤ length routes
-  pub few : x.0 ≤ 40000
+  pub few : x.0 ≤ MAX_FLEET
   pub places : are_places r 0 (length (route_of routes x.0)) x.1 x.2 ≡ true
   pub once : AreDistinctStops p (inserted r x.1 x.2 (route_of routes x.0))
   pub keeps : KeepsLimits p (inserted r x.1 x.2 (route_of routes x.0))

@@ -9,7 +9,7 @@ use Rattle.plan_audit.specs.Verdict.{printed, IsVerdict, rule_of}
 use Rattle.plan_audit.specs.declared.rules.Verdict.{Verdict}
 use Rattle.plan_audit.specs.declared.rules.Verdict.TheVariants.{Broken, Pass}
 use Rattle.rule_violations.proofs.VerdictLemmas.{number_reported}
-use Rattle.rule_violations.proofs.KnownScheduleLemmas.{live_known}
+use Rattle.rule_violations.proofs.KnownScheduleLemmas.{distinct_if_known}
 use Rattle.plan_explain.specs.VerdictTexts.{rule_schedule_is_known, verdict_schedule_is_known}
 use Rattle.plan_explain.specs.Sentences.{reported_route}
 
@@ -30,4 +30,4 @@ pub live_driven : (p : Instance) (routes : List (List ℕ)) (cost : ℕ) (v : Ve
 live_driven p routes cost (Pass c) known is = live_passing p (printed routes cost) c is
 live_driven p routes cost (Broken rule r i n) known is =
     let reported : rule_of rule ≡ Some is.0 = ap rule_of is.1 ∙ number_reported is.0 in
-    live_known p (printed routes cost) is.0 r i n (is.0, refl, is.2) (sym (ap rule_schedule_is_known reported) ∙ known)
+    distinct_if_known p (printed routes cost) is.0 r i n (is.0, refl, is.2) (sym (ap rule_schedule_is_known reported) ∙ known)

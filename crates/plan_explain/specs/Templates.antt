@@ -10,7 +10,7 @@ use Rattle.instance_read.specs.declared.evidence.SolomonLine.TheVariants as line
 use Rattle.instance_read.specs.declared.vrp_lines.Key.{Key}
 use Rattle.instance_read.specs.declared.vrp_lines.Key.TheVariants as keys
 use Rattle.plan_types.specs.declared.requests.Stop.{Stop}
-use Rattle.rule_violations.specs.declared.positions.StopPosition.{StopPosition}
+use Rattle.rule_violations.specs.declared.positions.PrintedPosition.{PrintedPosition}
 use Rattle.text_buffer.specs.Columns.{left as at_left, right, right_signed}
 use Rattle.plan_explain.specs.Quotes.{shown_bytes}
 use Rattle.plan_explain.specs.declared.templates.Value.{Value}
@@ -21,7 +21,7 @@ abbrev pub text_if : List ℕ → Bool → List ℕ
 text_if words holds = if holds then words else []
 
 -- the position of a stop; routes and places count from 1
-abbrev pub position_text : Option StopPosition → List ℕ
+abbrev pub position_text : Option PrintedPosition → List ℕ
 position_text None = codes "in no route"
 position_text (Some s) = codes "at place " ++ decimal s.place ++ codes " of route " ++ decimal s.route
 
@@ -90,7 +90,7 @@ value_text (RightLong width n) = right width n
 value_text (RightSigned width z) = right_signed width z
 value_text (Left width n) = at_left width n
 value_text (TextIf words holds) = text_if words.now holds
-value_text (At seat) = position_text seat
+value_text (At position) = position_text position
 value_text (Quote bytes) = shown_bytes bytes.now
 value_text (Name field) = field_name field
 value_text (KeyName key) = key_name key

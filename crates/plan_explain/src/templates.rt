@@ -6,7 +6,7 @@ ghost use Rattle.plan_explain.specs.Templates.{demand_text, field_name, form, ke
 use crate::quotes::put_quoted;
 use instance_read::{Field, Key, SolomonLine};
 use plan_types::Stop;
-use rule_violations::StopPosition;
+use rule_violations::PrintedPosition;
 use text_buffer::TextBuffer;
 
 /// A value that replaces an `@` of a template.
@@ -24,7 +24,7 @@ pub(crate) enum Value<'a> {
     /// These words if the condition holds, otherwise nothing.
     TextIf(&'a str, bool),
     /// The route and place of a stop, or the words for a stop in no route.
-    At(Option<StopPosition>),
+    At(Option<PrintedPosition>),
     /// Bytes of the file, as `put_quoted` appends them.
     Quote(&'a [u8]),
     Name(Field),
@@ -82,7 +82,7 @@ fn put_value(text: &mut TextBuffer, value: Value<'_>)
         Value::RightSigned(width, number) => text.push_right_aligned_signed(width, number),
         Value::Left(width, number) => text.push_left_aligned(width, u128::from(number)),
         Value::TextIf(words, holds) => put_if(text, words, holds),
-        Value::At(seat) => put_position(text, seat),
+        Value::At(position) => put_position(text, position),
         Value::Quote(bytes) => put_quoted(text, bytes),
         Value::Name(field) => text.push_str(field_name(field)),
         Value::KeyName(key) => text.push_str(key_name(key)),
@@ -101,10 +101,10 @@ pub(crate) fn put_if(text: &mut TextBuffer, words: &str, holds: bool)
     }
 }
 
-fn put_position(text: &mut TextBuffer, seat: Option<StopPosition>)
-    ensures { text.new ≡ text.old ++ position_text seat }
+fn put_position(text: &mut TextBuffer, position: Option<PrintedPosition>)
+    ensures { text.new ≡ text.old ++ position_text position }
 {
-    let Some(StopPosition { route, place }) = seat else {
+    let Some(PrintedPosition { route, place }) = position else {
         text.push_str("in no route");
         return;
     };

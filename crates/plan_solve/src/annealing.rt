@@ -4,14 +4,15 @@ ghost use Rattle.std.specs.Prelude.{◌≡◌, true, max, IfOk};
 ghost use Rattle.std.specs.Io.KnownBytes.{Appends};
 ghost use Rattle.plan_solve.specs.Solved.{anneal_lines, annealed, line_after, twentieths_made};
 ghost use Rattle.plan_solve.specs.ProgressState.{HasMade, HasEnded};
+ghost use Rattle.route_sched.specs.Cost.{cost_of};
 ghost use Rattle.command_types.specs.Job.{JobValue};
 ghost use Rattle.command_types.specs.declared.states.State.TheVariants.{Loaded};
 
-use crate::execute::{execute, job_of};
+use crate::execute::{execute, incumbent_of};
 use crate::progress_lines::{EndedJob, write_progress};
 use command_core::{Job, Planner, State};
 use command_text::{StepCursor, next_command};
-use plan_types::OutOfMemory;
+use plan_types::{Cost, OutOfMemory};
 use std::alloc::Global;
 use std::io::Write;
 
@@ -51,7 +52,8 @@ fn anneal_by_stages<W: Write>(
         → HasMade (W.contents progress.old) (W.contents progress.new)
         (annealed begun steps) (anneal_lines begun steps) planner.new is_written) }
 {
-    let is_written = write_progress(true, job_of(planner)?, progress);
+    let (job, cost) = incumbent_of(planner)?;
+    let is_written = write_progress(true, job, cost, progress);
     let mut reported = ProgressState {
         is_written,
         parts: 0,
@@ -62,7 +64,8 @@ fn anneal_by_stages<W: Write>(
     };
     while let Some((command, following)) = next_command(left, planner.state()) {
         execute(alloc, planner, command)?;
-        reported = write_progress_if_due(reported, job_of(planner)?, steps, progress);
+        let (job, cost) = incumbent_of(planner)?;
+        reported = write_progress_if_due(reported, job, cost, steps, progress);
         left = following;
     }
     Ok(reported.is_written)
@@ -72,9 +75,11 @@ fn anneal_by_stages<W: Write>(
 fn write_progress_if_due<W: Write>(
     reported: ProgressState,
     job: &Job,
+    cost: Cost,
     steps: u32,
     progress: &mut W,
 ) -> ProgressState
+    requires { cost ≡ cost_of job.now.problem job.now.plan }
     ensures parts { result.parts ≡ max reported.parts (twentieths_made steps job.now) }
     ensures reported { result.is_written ≡ true → (reported.is_written ≡ true)
         × Appends (W.contents progress.old) (W.contents progress.new)
@@ -84,7 +89,7 @@ fn write_progress_if_due<W: Write>(
     if parts <= reported.parts {
         return reported;
     }
-    let is_written = write_progress(reported.is_written, job, progress);
+    let is_written = write_progress(reported.is_written, job, cost, progress);
     ProgressState { is_written, parts }
 }
 

@@ -6,7 +6,7 @@ ghost use Rattle.plan_solve.specs.ProgressState.{HasMade, HasEnded, reported};
 ghost use Rattle.command_types.specs.Job.{JobValue};
 ghost use Rattle.command_types.specs.declared.states.State.TheVariants.{Loaded};
 
-use crate::execute::{execute, job_of};
+use crate::execute::{execute, incumbent_of};
 use crate::marks::{TWENTIETHS, twentieths};
 use crate::progress_lines::{EndedJob, write_progress};
 use command_core::{Command, Job, Planner, State, searches_add_up};
@@ -62,7 +62,8 @@ fn search_parts<W: Write>(
         (searched begun steps) (reported begun (marks steps)) planner.new is_written) }
 {
     searches_add_up();
-    let mut is_written = write_progress(true, job_of(planner)?, progress);
+    let (job, cost) = incumbent_of(planner)?;
+    let mut is_written = write_progress(true, job, cost, progress);
     let mut done = 0;
     let mut parts = 0;
     while parts < TWENTIETHS {
@@ -70,7 +71,8 @@ fn search_parts<W: Write>(
         let mark = twentieths(steps, parts);
         if done < mark {
             search(alloc, planner, mark - done)?;
-            is_written = write_progress(is_written, job_of(planner)?, progress);
+            let (job, cost) = incumbent_of(planner)?;
+            is_written = write_progress(is_written, job, cost, progress);
             done = mark;
         }
     }

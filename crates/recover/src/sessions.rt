@@ -1,6 +1,8 @@
 //! Sessions over a device.
-ghost use Rattle.std.specs.Prelude.{◌≡◌, ◌+◌, false, true, List, [], ◌∷◌, ℕ, None, OnOk};
+ghost use Rattle.std.specs.Prelude.{◌≡◌, ◌+◌, false, true, List, [], ◌∷◌, ℕ, None, OnOk, MatchOption};
+ghost use Rattle.route_sched.specs.Cost.{cost_of};
 ghost use Rattle.command_types.specs.States.{IsState};
+ghost use Rattle.command_types.specs.declared.states.State.TheVariants.{Empty, Loaded};
 ghost use Rattle.sector_disk.specs.Sectors.{Throughout, more};
 ghost use Rattle.sector_disk.specs.Calls.{Calls};
 ghost use Rattle.state_codec.specs.declared.version.Version.TheVariants.{Two};
@@ -12,9 +14,10 @@ use crate::commits::{CommitFault, commit, is_snapshot_due};
 use crate::denials::Denial;
 use crate::replies::Reply;
 use checkpoint::{LAST_SEQUENCE, Place};
-use command_core::{Command, Planner, State, accepted_commands_fit_records, check};
+use command_core::{Command, Job, Planner, State, accepted_commands_fit_records, check};
 use log::Log;
 use log::sink::Discard;
+use plan_types::Cost;
 use sector_disk::{MemDevice, Sectors};
 use std::alloc::Global;
 use std::marker::Model;
@@ -201,6 +204,16 @@ impl<D: Sectors> Session<D> {
         ensures facts { IsState self.now.state }
     {
         self.planner.state()
+    }
+
+    /// Returns the job and the cost of its incumbent, if there is a job. After a command that made steps the cost
+    /// is known. Otherwise it is computed.
+    pub fn incumbent(&self) -> Option<(&Job, Cost)>
+        ensures { MatchOption result (self.now.state ≡ Empty) (λ found.
+            (self.now.state ≡ Loaded found.0.now)
+            × (found.1 ≡ cost_of found.0.now.problem found.0.now.plan)) }
+    {
+        self.planner.incumbent()
     }
 
     /// Returns whether the device has failed in a command. If so, each command is answered `Broken`, until the

@@ -23,6 +23,6 @@ above_two Fleet h = omega arith
 above_two Pin h = omega arith
 above_two PrintedCost h = omega arith
 
-pub live_known : (p : Instance) (s : Subject) (k : Rule) (r i n : ℕ) → IsVerdict p s (Broken (rule_number k) r i n) → schedule_is_known k ≡ true
+pub distinct_if_known : (p : Instance) (s : Subject) (k : Rule) (r i n : ℕ) → IsVerdict p s (Broken (rule_number k) r i n) → schedule_is_known k ≡ true
     → All (AreDistinctStops p) (routes_of s)
-live_known p s k r i n is h = live_above p s (rule_number k) r i n is (above_two k h)
+distinct_if_known p s k r i n is h = live_above p s (rule_number k) r i n is (above_two k h)

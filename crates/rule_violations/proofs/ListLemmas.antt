@@ -60,34 +60,34 @@ pub ascending_option : (o : Option Violation) → AreAscending (option_to_list o
 ascending_option None = tt
 ascending_option (Some b) = (tt, tt)
 
-module _ {X : Type 0} (tell : ℕ → X → List Violation) where
+module _ {X : Type 0} (of_item : ℕ → X → List Violation) where
   -- an item of the list comes from an item of the input
-  pub reported_to : (k : ℕ) (xs : List X) (b : Violation) → Contains (violations_from tell k xs) b
-      → (j : ℕ) × (x : X) × (slice_get xs j ≡ Some x) × Contains (tell (k + j) x) b
+  pub reported_to : (k : ℕ) (xs : List X) (b : Violation) → Contains (violations_from of_item k xs) b
+      → (j : ℕ) × (x : X) × (slice_get xs j ≡ Some x) × Contains (of_item (k + j) x) b
   reported_to k [] b c = absurd (in_nothing b c)
-  reported_to k (x ∷ xs) b c = elim (Contains-append_cases (tell k x) (violations_from tell (k + 1) xs) b c) [
-    | inl left ↦ (0, x, refl, subst (λ i. Contains (tell i x) b) (let e : k ≡ k + 0 = omega arith in e) left)
+  reported_to k (x ∷ xs) b c = elim (Contains-append_cases (of_item k x) (violations_from of_item (k + 1) xs) b c) [
+    | inl left ↦ (0, x, refl, subst (λ i. Contains (of_item i x) b) (let e : k ≡ k + 0 = omega arith in e) left)
     | inr right ↦
         (let t = reported_to (k + 1) xs b right in
-        (suc t.0, t.1, t.2, subst (λ i. Contains (tell i t.1) b) (let e : k + 1 + t.0 ≡ k + suc t.0 = omega arith in e) t.3))
+        (suc t.0, t.1, t.2, subst (λ i. Contains (of_item i t.1) b) (let e : k + 1 + t.0 ≡ k + suc t.0 = omega arith in e) t.3))
   ]
 
   -- each item of the input puts its violations into the list
-  pub told_of : (k : ℕ) (xs : List X) (b : Violation) (j : ℕ) (x : X) → slice_get xs j ≡ Some x → Contains (tell (k + j) x) b → Contains (violations_from tell k xs) b
-  told_of k [] b j x at c = absurd (let h : None ≡ Some x = at in cc)
-  told_of k (y ∷ xs) b zero x at c =
+  pub item_in_violations : (k : ℕ) (xs : List X) (b : Violation) (j : ℕ) (x : X) → slice_get xs j ≡ Some x → Contains (of_item (k + j) x) b → Contains (violations_from of_item k xs) b
+  item_in_violations k [] b j x at c = absurd (let h : None ≡ Some x = at in cc)
+  item_in_violations k (y ∷ xs) b zero x at c =
       let same : x ≡ y = (let h : Some y ≡ Some x = at in cc) in
-      Contains-append_left (tell k y) (violations_from tell (k + 1) xs) b
-      (subst (λ z. Contains (tell k z) b) same (subst (λ i. Contains (tell i x) b) (let e : k + 0 ≡ k = omega arith in e) c))
-  told_of k (y ∷ xs) b (suc j) x at c =
-      Contains-append_right (tell k y) (violations_from tell (k + 1) xs) b
-      (told_of (k + 1) xs b j x at (subst (λ i. Contains (tell i x) b) (let e : k + suc j ≡ k + 1 + j = omega arith in e) c))
+      Contains-append_left (of_item k y) (violations_from of_item (k + 1) xs) b
+      (subst (λ z. Contains (of_item k z) b) same (subst (λ i. Contains (of_item i x) b) (let e : k + 0 ≡ k = omega arith in e) c))
+  item_in_violations k (y ∷ xs) b (suc j) x at c =
+      Contains-append_right (of_item k y) (violations_from of_item (k + 1) xs) b
+      (item_in_violations (k + 1) xs b j x at (subst (λ i. Contains (of_item i x) b) (let e : k + suc j ≡ k + 1 + j = omega arith in e) c))
 
   -- the list is ascending if each part is and comes before the later parts
-  pub reported_ascending : ((k : ℕ) (x : X) → AreAscending (tell k x))
-      → ((i j : ℕ) (x y : X) (b c : Violation) → i < j → Contains (tell i x) b → Contains (tell j y) c → IsBefore b c) → (k : ℕ) (xs : List X)
-      → AreAscending (violations_from tell k xs)
+  pub reported_ascending : ((k : ℕ) (x : X) → AreAscending (of_item k x))
+      → ((i j : ℕ) (x y : X) (b c : Violation) → i < j → Contains (of_item i x) b → Contains (of_item j y) c → IsBefore b c) → (k : ℕ) (xs : List X)
+      → AreAscending (violations_from of_item k xs)
   reported_ascending each before k [] = tt
   reported_ascending each before k (x ∷ xs) =
-      ascending_append (tell k x) (violations_from tell (k + 1) xs) (each k x) (reported_ascending each before (k + 1) xs)
+      ascending_append (of_item k x) (violations_from of_item (k + 1) xs) (each k x) (reported_ascending each before (k + 1) xs)
       (λ b c first later. (let t = reported_to (k + 1) xs c later in before k (k + 1 + t.0) x t.1 b c (omega arith) first t.3))

@@ -23,8 +23,8 @@ use Rattle.plan_audit.proofs.ServedLemmas.{IsNowhere, below_less, no_seat, not_s
 use Rattle.rule_violations.specs.Violations.{violations_of, missing_violation, position_at, stop_violations, stop_test, violations_from, unserved_violation, unserved_violations}
 use Rattle.rule_violations.specs.Laws.{AreAll, AreAscending, IsBefore, IsViolation}
 use Rattle.rule_violations.specs.declared.violations.Violation.{Violation}
-use Rattle.rule_violations.proofs.ListLemmas.{in_option, option_in, ascending_append, ascending_option, told_of, reported_to}
-use Rattle.rule_violations.proofs.PlaceLemmas.{at_seat, violation_at, if_some, places_of, places_ascending, places_to}
+use Rattle.rule_violations.proofs.ListLemmas.{in_option, option_in, ascending_append, ascending_option, item_in_violations, reported_to}
+use Rattle.rule_violations.proofs.PlaceLemmas.{counted_from_1, violation_at, if_some, places_of, places_ascending, places_to}
 use Rattle.rule_violations.proofs.PositionLemmas.{has_none}
 
 -- a request with no stop in any route is not planned
@@ -50,13 +50,13 @@ looked_up (x ∷ es) (suc j) e up at =
     let apart : nat_eq e.0 x.0 ≡ false = elim (eqb_tells e.0 x.0) [ inl t ↦ (let a = t.1 in absurd (omega arith)) | inr t ↦ t.0 ] in
     rw apart (looked_up es j e up.1 at)
 
-stands_at : (es : List (ℕ × Request)) (n : ℕ) (r : Request) → lookup (nat_eq n) es ≡ Some r → (j : ℕ) × (slice_get es j ≡ Some (n, r))
-stands_at [] n r is = absurd (none_some r is)
-stands_at (e ∷ es) n r is = elim (eqb_tells n e.0) [
+item_of_lookup : (es : List (ℕ × Request)) (n : ℕ) (r : Request) → lookup (nat_eq n) es ≡ Some r → (j : ℕ) × (slice_get es j ≡ Some (n, r))
+item_of_lookup [] n r is = absurd (none_some r is)
+item_of_lookup (e ∷ es) n r is = elim (eqb_tells n e.0) [
   | inl t ↦ (
       let same : e.1 ≡ r = same_Some _ _ (let h : lookup (nat_eq n) (e ∷ es) ≡ Some r = is in rw t.0 at h) in
       (0, ap (λ a. Some (a, e.1)) (sym t.1) ∙ ap (λ b. Some (n, b)) same))
-  | inr t ↦ (let later = stands_at es n r (let h : lookup (nat_eq n) (e ∷ es) ≡ Some r = is in rw t.0 at h) in (suc later.0, later.1))
+  | inr t ↦ (let later = item_of_lookup es n r (let h : lookup (nat_eq n) (e ∷ es) ≡ Some r = is in rw t.0 at h) in (suc later.0, later.1))
 ]
 
 unserved_reported : ℕ → Violation
@@ -76,8 +76,8 @@ module _ (p : Instance) (routes : List (List ℕ)) where
       by true is = absurd (none_some b is)
       by false is = (refl, same_Some _ _ is)
 
-  tell : ℕ → ℕ × Request → List Violation
-  tell k e = option_to_list (unserved_violation routes e)
+  of_item : ℕ → ℕ × Request → List Violation
+  of_item k e = option_to_list (unserved_violation routes e)
 
   unserved_ascending : (k : ℕ) (es : List (ℕ × Request)) → IsStrictlySortedBy nat_cmp (keys_of es)
       → AreAscending (violations_from (λ _ e. option_to_list (unserved_violation routes e)) k es)
@@ -114,14 +114,14 @@ module _ (p : Instance) (routes : List (List ℕ)) where
       from : (b : Violation) → IsUnservedViolation b → Contains (unserved_violations p routes) b
       from b is =
           let request = is.2.0 in
-          let at = stands_at p.requests b.stop request is.2.1 in
+          let at = item_of_lookup p.requests b.stop request is.2.1 in
           let reported : ◌≡◌ {A = Violation} (record { route = 0; place = 0; stop = b.stop; by = 0 }) b =
           ap (λ x. record { route = x; place = 0; stop = b.stop; by = 0 }) (sym is.0)
           ∙ ap (λ x. record { route = b.route; place = x; stop = b.stop; by = 0 }) (sym is.1)
           ∙ ap (λ x. record { route = b.route; place = b.place; stop = b.stop; by = x }) (sym is.3) in
           let here : unserved_violation routes (b.stop, request) ≡ Some b =
           ap (λ h. cond h None (Some (record { route = 0; place = 0; stop = b.stop; by = 0 }))) (not_planned routes request is.2.2) ∙ ap Some reported in
-          told_of (λ _ e. option_to_list (unserved_violation routes e)) 0 p.requests b at.0 (b.stop, request) at.1 (option_in _ b here)
+          item_in_violations (λ _ e. option_to_list (unserved_violation routes e)) 0 p.requests b at.0 (b.stop, request) at.1 (option_in _ b here)
 
   -- the violation of a place whose partner is in no route
   abbrev pub IsMissingViolation : Violation → Type 0
@@ -132,7 +132,7 @@ module _ (p : Instance) (routes : List (List ℕ)) where
   partner_reported r i None b is = absurd (none_some b is)
   partner_reported r i (Some m) b is =
       let e = if_some (not (has_stop routes m)) (position_at r i) m 0 b is in
-      (m, refl, not-true _ e.0, sym (at_seat r i m 0) ∙ e.1)
+      (m, refl, not-true _ e.0, sym (counted_from_1 r i m 0) ∙ e.1)
 
   partners_all : AreAll IsMissingViolation (stop_violations p routes MissingStop)
   partners_all = record {
@@ -160,7 +160,7 @@ module _ (p : Instance) (routes : List (List ℕ)) where
           let here : missing_violation routes (position_at r i) (partner_at p n) ≡ Some b =
           ap (missing_violation routes (position_at r i)) is.0.2
           ∙ ap (λ h. cond h (Some (record { route = r + 1; place = i + 1; stop = b.stop; by = 0 })) None) (not_from_false _ (has_none routes b.stop is.0.3))
-          ∙ ap Some (at_seat r i b.stop 0 ∙ reported) in
+          ∙ ap Some (counted_from_1 r i b.stop 0 ∙ reported) in
           places_of (stop_test p routes MissingStop) routes b r i (n, st.4, here)
 
   pub missing_all : IsInstance p → AreAll (IsViolation p routes MissingStop) (violations_of p routes MissingStop)

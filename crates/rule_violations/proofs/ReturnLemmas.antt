@@ -10,7 +10,7 @@ use Rattle.rule_violations.specs.Violations.{violation_if, returns_late, return_
 use Rattle.rule_violations.specs.Laws.{AreAll, IsViolation}
 use Rattle.rule_violations.specs.Limits.{is_late}
 use Rattle.rule_violations.specs.declared.violations.Violation.{Violation}
-use Rattle.rule_violations.proofs.ListLemmas.{in_option, option_in, ascending_option, told_of, reported_ascending, reported_to}
+use Rattle.rule_violations.proofs.ListLemmas.{in_option, option_in, ascending_option, item_in_violations, reported_ascending, reported_to}
 use Rattle.rule_violations.proofs.PlaceLemmas.{if_some, zero-plus}
 use Rattle.rule_violations.proofs.RuleLemmas.{both, late_holds, late_true}
 
@@ -26,9 +26,9 @@ module _ (p : Instance) (routes : List (List ℕ)) where
   reported_at : ℕ → List ℕ → Violation
   reported_at r route = record { route = suc r; place = length route + 1; stop = 0; by = start p route (length route + 1) - p.depot.latest }
 
-  is_told : (r : ℕ) (route : List ℕ) (b : Violation) → return_violation p r route ≡ Some b → (returns_late p route ≡ true) × (reported_at r route ≡ b)
+  is_reported : (r : ℕ) (route : List ℕ) (b : Violation) → return_violation p r route ≡ Some b → (returns_late p route ≡ true) × (reported_at r route ≡ b)
   unfolding reported_at
-  is_told r route b is =
+  is_reported r route b is =
       let e = if_some (returns_late p route) (position_at r (length route)) 0 (start p route (length route + 1) - p.depot.latest) b is in
       (e.0, ap (λ x. record { route = x; place = length route + 1; stop = 0; by = start p route (length route + 1) - p.depot.latest }) (sym (add-one r)) ∙ e.1)
 
@@ -38,8 +38,8 @@ module _ (p : Instance) (routes : List (List ℕ)) where
     each = λ b. (to b, from b);
     ascending = reported_ascending (return_violation_list p) (λ r route. ascending_option (return_violation p r route))
         (λ r q route other b c lt first later. (
-        let here = ap (λ (b : Violation). b.route) (is_told r route b (in_option _ b first)).1 in
-        let there = ap (λ (b : Violation). b.route) (is_told q other c (in_option _ c later)).1 in
+        let here = ap (λ (b : Violation). b.route) (is_reported r route b (in_option _ b first)).1 in
+        let there = ap (λ (b : Violation). b.route) (is_reported q other c (in_option _ c later)).1 in
         inl (omega arith)))
         0 routes;
   }
@@ -48,7 +48,7 @@ module _ (p : Instance) (routes : List (List ℕ)) where
       to b c =
           let t = reported_to (return_violation_list p) 0 routes b c in
           let r = t.0 in let route = t.1 in
-          let e = is_told (0 + r) route b (in_option _ b t.3) in
+          let e = is_reported (0 + r) route b (in_option _ b t.3) in
           let at : reported_at r route ≡ b = ap (λ q. reported_at q route) (sym (zero-plus r)) ∙ e.1 in
           let parts = and_parts (not (eqb (length route) 0)) (is_late p (start p route (length route + 1)) p.depot.latest) e.0 in
           let late = late_true p routes p.kind (start p route (length route + 1)) p.depot.latest parts.1 in
@@ -76,4 +76,4 @@ module _ (p : Instance) (routes : List (List ℕ)) where
           ∙ ap (λ z. record { route = b.route; place = b.place; stop = b.stop; by = z }) by in
           let here : return_violation p r route ≡ Some b =
           ap (λ h. violation_if h (position_at r (length route)) 0 (start p route (length route + 1) - p.depot.latest)) holds ∙ ap Some reported in
-          told_of (return_violation_list p) 0 routes b r route at.2 (option_in _ b (subst (λ q. return_violation p q route ≡ Some b) (sym (zero-plus r)) here))
+          item_in_violations (return_violation_list p) 0 routes b r route at.2 (option_in _ b (subst (λ q. return_violation p q route ≡ Some b) (sym (zero-plus r)) here))

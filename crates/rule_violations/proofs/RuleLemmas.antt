@@ -59,9 +59,9 @@ use Rattle.rule_violations.specs.Violations.{is_early_delivery, is_repeated, is_
 use Rattle.rule_violations.specs.Laws.{AreAll, IsViolation, HasNoRepeatedStop}
 use Rattle.rule_violations.specs.Limits.{is_late, is_overload, is_late_for_kind}
 use Rattle.rule_violations.specs.Positions.{first_position}
-use Rattle.rule_violations.specs.declared.positions.StopPosition.{StopPosition}
+use Rattle.rule_violations.specs.declared.positions.PrintedPosition.{PrintedPosition}
 use Rattle.rule_violations.proofs.PlaceLemmas.{rule_places}
-use Rattle.rule_violations.proofs.PositionLemmas.{IsFirstSeat, first_found, first_none}
+use Rattle.rule_violations.proofs.PositionLemmas.{IsFirstPosition, first_found, first_none}
 
 pub not_so : {X : Type 0} → false ≡ true → X
 not_so h = absurd (cc)
@@ -117,7 +117,7 @@ module _ (p : Instance) (routes : List (List ℕ)) where
       (λ r i n t h cost. to r i n t (first_position routes n) refl h) (λ r i n t b. from r i n (first_position routes n) refl (b 0)) (λ r i n b. (b 0).0)
       (λ r i n t. refl)
     where
-      to : (r i n : ℕ) → Sits routes r i n → (o : Option StopPosition) → first_position routes n ≡ o → is_repeated (position_at r i) o ≡ true
+      to : (r i n : ℕ) → Sits routes r i n → (o : Option PrintedPosition) → first_position routes n ≡ o → is_repeated (position_at r i) o ≡ true
           → IsRepeated p routes (suc r) (suc i) n
       to r i n t None e h = not_so h
       to r i n t (Some s) e h =
@@ -128,7 +128,7 @@ module _ (p : Instance) (routes : List (List ℕ)) where
               suc d,
               suc j,
               earlier d j (f.route_is) (f.place_is) (f.least r i t) (or_cases (not (eqb s.route (r + 1))) (not (eqb s.place (i + 1))) h),
-              f.sits,
+              f.at_index,
             ),
           )
         where
@@ -147,7 +147,7 @@ module _ (p : Instance) (routes : List (List ℕ)) where
                 | inr t ↦ (let ne' = t.1 in omega arith)
               ]
 
-      from : (r i n : ℕ) (o : Option StopPosition) → first_position routes n ≡ o → IsRepeated p routes (suc r) (suc i) n → is_repeated (position_at r i) o ≡ true
+      from : (r i n : ℕ) (o : Option PrintedPosition) → first_position routes n ≡ o → IsRepeated p routes (suc r) (suc i) n → is_repeated (position_at r i) o ≡ true
       from r i n None e b = let st = standing routes b.1.0 b.1.1 n b.1.3 in absurd (first_none routes n e st.0 st.1 st.4)
       from r i n (Some s) e b =
           let st = standing routes b.1.0 b.1.1 n b.1.3 in
@@ -163,14 +163,14 @@ module _ (p : Instance) (routes : List (List ℕ)) where
           elsewhere d j x y q' i' q k eq ek (inr le) (inr before) = let most = le.1 in let lt = before.1 in inr (apart s.place (i + 1) (λ e. omega arith))
 
   -- if no stop is repeated, the first position of a stop is its only one
-  only_seat : HasNoRepeatedStop p routes → (n : ℕ) (s : StopPosition) (f : IsFirstSeat n 1 routes s) (r i : ℕ) → Sits routes r i n → (f.at_route ≡ r) × (f.at_place ≡ i)
-  only_seat once n s f r i t = elim (f.least r i t) [
-    | inl lt ↦ absurd (once (suc r) (suc i) n (t, (suc (f.at_route), suc (f.at_place), inl (omega arith), f.sits)))
+  only_position : HasNoRepeatedStop p routes → (n : ℕ) (s : PrintedPosition) (f : IsFirstPosition n 1 routes s) (r i : ℕ) → Sits routes r i n → (f.at_route ≡ r) × (f.at_place ≡ i)
+  only_position once n s f r i t = elim (f.least r i t) [
+    | inl lt ↦ absurd (once (suc r) (suc i) n (t, (suc (f.at_route), suc (f.at_place), inl (omega arith), f.at_index)))
     | inr le ↦ elim (eqb_tells (f.at_place) i) [
       | inl same ↦ (le.0, same.1)
       | inr other ↦ (
           let most = le.1 in let ne = other.1 in
-          absurd (once (suc r) (suc i) n (t, (suc (f.at_route), suc (f.at_place), inr (ap suc le.0, omega arith), f.sits))))
+          absurd (once (suc r) (suc i) n (t, (suc (f.at_route), suc (f.at_place), inr (ap suc le.0, omega arith), f.at_index))))
     ]
   ]
 
@@ -184,14 +184,14 @@ module _ (p : Instance) (routes : List (List ℕ)) where
       to r i None h = not_so h
       to r i (Some m) h = by (first_position routes m) refl h
         where
-          by : (o : Option StopPosition) → first_position routes m ≡ o → option_map_or (λ s. not (eqb s.route (r + 1))) o false ≡ true
+          by : (o : Option PrintedPosition) → first_position routes m ≡ o → option_map_or (λ s. not (eqb s.route (r + 1))) o false ≡ true
               → (k : ℕ) × (Some m ≡ Some k) × ((q : ℕ) × (j : ℕ) × (q ≢ suc r) × HasStopAt routes q j k)
           by None e h = not_so h
           by (Some s) e h =
               let f = first_found routes m s e in
               let is = f.route_is in
               let ne = are_apart s.route (r + 1) h in
-              (m, refl, (suc (f.at_route), suc (f.at_place), (λ same. ne (omega arith)), f.sits))
+              (m, refl, (suc (f.at_route), suc (f.at_place), (λ same. ne (omega arith)), f.at_index))
 
       from : (r i : ℕ) (other : Option ℕ) → (m : ℕ) × (other ≡ Some m) × ((q : ℕ) × (j : ℕ) × (q ≢ suc r) × HasStopAt routes q j m)
           → is_split routes (position_at r i) other ≡ true
@@ -200,12 +200,12 @@ module _ (p : Instance) (routes : List (List ℕ)) where
           let st = standing routes b.2.0 b.2.1 m b.2.3 in
           ap (λ (o : Option ℕ). is_split routes (position_at r i) o) b.1 ∙ by m st.0 st.1 st.4 (λ same. b.2.2 (st.2 ∙ ap suc same)) (first_position routes m) refl
         where
-          by : (m q j : ℕ) → Sits routes q j m → q ≢ r → (o : Option StopPosition) → first_position routes m ≡ o
+          by : (m q j : ℕ) → Sits routes q j m → q ≢ r → (o : Option PrintedPosition) → first_position routes m ≡ o
               → option_map_or (λ s. not (eqb s.route (r + 1))) o false ≡ true
           by m q j t ne None e = absurd (first_none routes m e q j t)
           by m q j t ne (Some s) e =
               let f = first_found routes m s e in
-              let is = f.route_is in let same = (only_seat once m s f q j t).0 in
+              let is = f.route_is in let same = (only_position once m s f q j t).0 in
               apart s.route (r + 1) (λ h. ne (omega arith))
 
   pub early_all : HasNoRepeatedStop p routes → AreAll (IsViolation p routes EarlyDelivery) (stop_violations p routes EarlyDelivery)
@@ -218,7 +218,7 @@ module _ (p : Instance) (routes : List (List ℕ)) where
       to r i None h = not_so h
       to r i (Some m) h = by (first_position routes m) refl h
         where
-          by : (o : Option StopPosition) → first_position routes m ≡ o → option_map_or (λ s. eqb s.route (r + 1) && nat_lt (i + 1) s.place) o false ≡ true
+          by : (o : Option PrintedPosition) → first_position routes m ≡ o → option_map_or (λ s. eqb s.route (r + 1) && nat_lt (i + 1) s.place) o false ≡ true
               → (k : ℕ) × (Some m ≡ Some k) × ((j : ℕ) × (suc i < j) × HasStopAt routes (suc r) j k)
           by None e h = not_so h
           by (Some s) e h =
@@ -228,7 +228,7 @@ module _ (p : Instance) (routes : List (List ℕ)) where
               let following = ltb-true (i + 1) s.place parts.1 in
               let is = f.route_is in let is' = f.place_is in
               let same : f.at_route ≡ r = omega arith in
-              (m, refl, (suc (f.at_place), omega arith, subst (λ q. Sits routes q (f.at_place) m) same (f.sits)))
+              (m, refl, (suc (f.at_place), omega arith, subst (λ q. Sits routes q (f.at_place) m) same (f.at_index)))
 
       from : (r i : ℕ) (pickup : Option ℕ) → (m : ℕ) × (pickup ≡ Some m) × ((j : ℕ) × (suc i < j) × HasStopAt routes (suc r) j m)
           → is_early_delivery routes (position_at r i) pickup ≡ true
@@ -238,13 +238,13 @@ module _ (p : Instance) (routes : List (List ℕ)) where
           let lt = b.2.1 in let eq = st.2 in let at = st.3 in
           ap (λ (o : Option ℕ). is_early_delivery routes (position_at r i) o) b.1 ∙ by m st.0 st.1 st.4 (omega arith) (omega arith) (first_position routes m) refl
         where
-          by : (m q j : ℕ) → Sits routes q j m → q ≡ r → i < j → (o : Option StopPosition) → first_position routes m ≡ o
+          by : (m q j : ℕ) → Sits routes q j m → q ≡ r → i < j → (o : Option PrintedPosition) → first_position routes m ≡ o
               → option_map_or (λ s. eqb s.route (r + 1) && nat_lt (i + 1) s.place) o false ≡ true
           by m q j t here lt None e = absurd (first_none routes m e q j t)
           by m q j t here lt (Some s) e =
               let f = first_found routes m s e in
               let is = f.route_is in let is' = f.place_is in
-              let only = only_seat once m s f q j t in
+              let only = only_position once m s f q j t in
               let same = only.0 in let same' = only.1 in
               both (eqb s.route (r + 1)) (nat_lt (i + 1) s.place) (same_test s.route (r + 1) (omega arith)) (lt-ltb (i + 1) s.place (omega arith))
 

@@ -14,30 +14,30 @@ use Rattle.plan_audit.proofs.FirstLemmas.{none_some}
 use Rattle.plan_audit.proofs.VisitLemmas.{nth-range}
 use Rattle.rule_violations.specs.Violations.{position_at, violations_from, unserved_violation, visit_violation, visit_test}
 use Rattle.rule_violations.specs.declared.violations.Violation.{Violation}
-use Rattle.rule_violations.specs.declared.positions.StopPosition.{StopPosition}
+use Rattle.rule_violations.specs.declared.positions.PrintedPosition.{PrintedPosition}
 
 together : (xs ys zs : List Violation) → (xs ++ ys) ++ zs ≡ xs ++ (ys ++ zs)
 together [] ys zs = refl
 together (x ∷ xs) ys zs = ap (λ l. x ∷ l) (together xs ys zs)
 
 -- the violations from the next item on are its own and those of the later items
-next_item : {X : Type 0} (tell : ℕ → X → List Violation) (i : ℕ) (xs : List X) (k : ℕ) (x : X) → slice_get xs k ≡ Some x
-    → violations_from tell i (drop k xs) ≡ tell i x ++ violations_from tell (i + 1) (drop (suc k) xs)
-next_item tell i [] k x at = absurd (none_some x at)
-next_item tell i (y ∷ xs) zero x at = ap (λ z. tell i z ++ violations_from tell (i + 1) xs) (same_Some y x at)
-next_item tell i (y ∷ xs) (suc k) x at = next_item tell i xs k x at
+next_item : {X : Type 0} (of_item : ℕ → X → List Violation) (i : ℕ) (xs : List X) (k : ℕ) (x : X) → slice_get xs k ≡ Some x
+    → violations_from of_item i (drop k xs) ≡ of_item i x ++ violations_from of_item (i + 1) (drop (suc k) xs)
+next_item of_item i [] k x at = absurd (none_some x at)
+next_item of_item i (y ∷ xs) zero x at = ap (λ z. of_item i z ++ violations_from of_item (i + 1) xs) (same_Some y x at)
+next_item of_item i (y ∷ xs) (suc k) x at = next_item of_item i xs k x at
 
-pub kept_on : {X : Type 0} (tell : ℕ → X → List Violation) (xs : List X) (k : ℕ) (x : X) (before after all : List Violation) → slice_get xs k ≡ Some x
-    → after ≡ before ++ tell k x → before ++ violations_from tell k (drop k xs) ≡ all → after ++ violations_from tell (k + 1) (drop (k + 1) xs) ≡ all
-kept_on tell xs k x before after all at added is =
-    ap (λ l. l ++ violations_from tell (k + 1) (drop (k + 1) xs)) added
+pub kept_on : {X : Type 0} (of_item : ℕ → X → List Violation) (xs : List X) (k : ℕ) (x : X) (before after all : List Violation) → slice_get xs k ≡ Some x
+    → after ≡ before ++ of_item k x → before ++ violations_from of_item k (drop k xs) ≡ all → after ++ violations_from of_item (k + 1) (drop (k + 1) xs) ≡ all
+kept_on of_item xs k x before after all at added is =
+    ap (λ l. l ++ violations_from of_item (k + 1) (drop (k + 1) xs)) added
     ∙ together before _ _
-    ∙ ap (λ n. before ++ (tell k x ++ violations_from tell (k + 1) (drop n xs))) (add-one k)
-    ∙ ap (λ l. before ++ l) (sym (next_item tell k xs k x at))
+    ∙ ap (λ n. before ++ (of_item k x ++ violations_from of_item (k + 1) (drop n xs))) (add-one k)
+    ∙ ap (λ l. before ++ l) (sym (next_item of_item k xs k x at))
     ∙ is
 
 -- the violations of the next visit, and of the visits after it
-pub visit_kept : (p : Instance) (rule : Rule) (r : ℕ) (route : List ℕ) (k : ℕ) (v : Visit) (position : StopPosition) (before after all : List Violation) (o : Option Violation)
+pub visit_kept : (p : Instance) (rule : Rule) (r : ℕ) (route : List ℕ) (k : ℕ) (v : Visit) (position : PrintedPosition) (before after all : List Violation) (o : Option Violation)
     → k < length route → v ≡ visit_after p route k → position ≡ position_at r k
     → o ≡ visit_violation p rule position (get_or route k 0) v → after ≡ before ++ option_to_list o
     → before ++ violations_from (λ i n. option_to_list (visit_test p rule r route i n)) k (drop k route) ≡ all
@@ -45,13 +45,13 @@ pub visit_kept : (p : Instance) (rule : Rule) (r : ℕ) (route : List ℕ) (k : 
 visit_kept p rule r route k v position before after all o lt is at reported added so_far =
     let here : o ≡ visit_test p rule r route k (get_or route k 0) =
     reported ∙ ap (λ s. visit_violation p rule s (get_or route k 0) v) at ∙ ap (λ w. visit_violation p rule (position_at r k) (get_or route k 0) w) is in
-    kept_on (λ i n. option_to_list (visit_test p rule r route i n)) route k (get_or route k 0) before after all (stands route k lt)
+    kept_on (λ i n. option_to_list (visit_test p rule r route i n)) route k (get_or route k 0) before after all (item_at_index route k lt)
     (added ∙ ap (λ q. before ++ option_to_list q) here) so_far
   where
-    stands : (ns : List ℕ) (k : ℕ) → k < length ns → slice_get ns k ≡ Some (get_or ns k 0)
-    stands [] k lt = absurd (omega arith)
-    stands (n ∷ ns) zero lt = refl
-    stands (n ∷ ns) (suc k) lt = stands ns k (omega arith)
+    item_at_index : (ns : List ℕ) (k : ℕ) → k < length ns → slice_get ns k ≡ Some (get_or ns k 0)
+    item_at_index [] k lt = absurd (omega arith)
+    item_at_index (n ∷ ns) zero lt = refl
+    item_at_index (n ∷ ns) (suc k) lt = item_at_index ns k (omega arith)
 
 -- the violations of the next request, if there is one
 none_left : (es : List (ℕ × Request)) (k : ℕ) → slice_get es k ≡ None → (drop k es ≡ []) × (drop (suc k) es ≡ [])
@@ -99,8 +99,8 @@ module _ (p : Instance) (route : List ℕ) (k : ℕ) (o : Option Visit) where
   same (Some z) v w e h = cc
 
   -- `nth` returns a visit, and it is the visit after this place
-  pub visit_told : (v : Visit) → k ≤ length route → o ≡ Some v → option_map (λ z. z) o ≡ slice_get (visits_from p route 0) k → v ≡ visit_after p route k
-  visit_told v within e h = same o v _ e (h ∙ here within)
+  pub visit_reported : (v : Visit) → k ≤ length route → o ≡ Some v → option_map (λ z. z) o ≡ slice_get (visits_from p route 0) k → v ≡ visit_after p route k
+  visit_reported v within e h = same o v _ e (h ∙ here within)
 
   pub visit_there : k ≤ length route → o ≡ None → option_map (λ z. z) o ≡ slice_get (visits_from p route 0) k → ⊥
   visit_there within e h = none_some _ (sym (ap (option_map (λ z. z)) e) ∙ h ∙ here within)

@@ -23,8 +23,8 @@ use Rattle.rule_violations.proofs.RuleLemmas.{both, not_so}
 use Rattle.rule_violations.proofs.PositionLemmas.{has_none}
 
 -- the test of two numbers decides whether they are equal
-abbrev Tells : ℕ → ℕ → Type 0
-Tells x y = ((eqb x y ≡ true) × (x ≡ y)) ⊎ ((eqb x y ≡ false) × (x ≢ y))
+abbrev AreEqualOrNot : ℕ → ℕ → Type 0
+AreEqualOrNot x y = ((eqb x y ≡ true) × (x ≡ y)) ⊎ ((eqb x y ≡ false) × (x ≢ y))
 
 flat_to : (f : ℕ → List ℕ) (xs : List ℕ) (n : ℕ) → Contains (flat_map f xs) n → (x : ℕ) × Contains (f x) n
 flat_to f [] n c = absurd (in_nothing n c)
@@ -112,23 +112,23 @@ pair_partner n a b some = elim (eqb_tells a.number n) [
   ]
 ]
   where
-    delivery_there : Tells a.number b.number → Tells b.number b.number → IsSome (stop_in b.number (Pair a b))
+    delivery_there : AreEqualOrNot a.number b.number → AreEqualOrNot b.number b.number → IsSome (stop_in b.number (Pair a b))
     delivery_there (inl t) u = ap (λ h. is_some (cond h (Some a) (cond (eqb b.number b.number) (Some b) None))) t.0
     delivery_there (inr t) (inl u) =
         ap (λ h. is_some (cond h (Some a) (cond (eqb b.number b.number) (Some b) None))) t.0 ∙ ap (λ h. is_some (cond h (Some b) None)) u.0
     delivery_there (inr t) (inr u) = absurd (u.1 refl)
 
-    delivery_partner : Tells a.number b.number → Tells b.number b.number → partner_in b.number (Pair a b) ≡ Some a.number
+    delivery_partner : AreEqualOrNot a.number b.number → AreEqualOrNot b.number b.number → partner_in b.number (Pair a b) ≡ Some a.number
     delivery_partner (inl t) u = ap (λ h. cond h (Some b.number) (cond (eqb b.number b.number) (Some a.number) None)) t.0 ∙ ap Some (sym t.1)
     delivery_partner (inr t) (inl u) =
         ap (λ h. cond h (Some b.number) (cond (eqb b.number b.number) (Some a.number) None)) t.0 ∙ ap (λ h. cond h (Some a.number) None) u.0
     delivery_partner (inr t) (inr u) = absurd (u.1 refl)
 
-    pickup_there : Tells a.number a.number → IsSome (stop_in a.number (Pair a b))
+    pickup_there : AreEqualOrNot a.number a.number → IsSome (stop_in a.number (Pair a b))
     pickup_there (inl t) = ap (λ h. is_some (cond h (Some a) (cond (eqb b.number a.number) (Some b) None))) t.0
     pickup_there (inr t) = absurd (t.1 refl)
 
-    pickup_partner : Tells a.number a.number → partner_in a.number (Pair a b) ≡ Some b.number
+    pickup_partner : AreEqualOrNot a.number a.number → partner_in a.number (Pair a b) ≡ Some b.number
     pickup_partner (inl t) = ap (λ h. cond h (Some b.number) (cond (eqb b.number a.number) (Some a.number) None)) t.0
     pickup_partner (inr t) = absurd (t.1 refl)
 
@@ -149,12 +149,12 @@ partner_there m n (Pair a b) is = elim (eqb_tells a.number m) [
   ]
 ]
   where
-    delivery : b.number ≡ n → Tells a.number n → Tells b.number n → IsSome (stop_in n (Pair a b))
+    delivery : b.number ≡ n → AreEqualOrNot a.number n → AreEqualOrNot b.number n → IsSome (stop_in n (Pair a b))
     delivery e (inl t) u = ap (λ h. is_some (cond h (Some a) (cond (eqb b.number n) (Some b) None))) t.0
     delivery e (inr t) (inl u) = ap (λ h. is_some (cond h (Some a) (cond (eqb b.number n) (Some b) None))) t.0 ∙ ap (λ h. is_some (cond h (Some b) None)) u.0
     delivery e (inr t) (inr u) = absurd (u.1 e)
 
-    pickup : a.number ≡ n → Tells a.number n → IsSome (stop_in n (Pair a b))
+    pickup : a.number ≡ n → AreEqualOrNot a.number n → IsSome (stop_in n (Pair a b))
     pickup e (inl t) = ap (λ h. is_some (cond h (Some a) (cond (eqb b.number n) (Some b) None))) t.0
     pickup e (inr t) = absurd (t.1 e)
 

@@ -151,8 +151,8 @@ module _ (lists : ListsHoldAllViolations) (p : Instance) (routes : List (List �
     λ m lt. kept_list m (λ l q j t below b. none_before k r i n least l q j t (omega arith) b),
   )
 
-pub verdicts_tell_first : ListsHoldAllViolations → VerdictsReportFirstViolations
-verdicts_tell_first lists p routes cost k r i n valid le is =
+pub verdicts_report_first : ListsHoldAllViolations → VerdictsReportFirstViolations
+verdicts_report_first lists p routes cost k r i n valid le is =
     let same : is.0 ≡ k = same_rule is.0 k (sym is.1) in
     least_reported lists p routes cost valid k r i n le (subst (λ m. IsFirstBroken 1 11 p (printed routes cost) m r i n) same is.2)
 

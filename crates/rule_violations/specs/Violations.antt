@@ -14,35 +14,35 @@ use Rattle.plan_audit.specs.declared.rules.Rule.TheVariants.{UnknownStop, Visite
 use Rattle.rule_violations.specs.Limits.{is_late, is_overload}
 use Rattle.rule_violations.specs.Positions.{first_position}
 use Rattle.rule_violations.specs.declared.violations.Violation.{Violation}
-use Rattle.rule_violations.specs.declared.positions.StopPosition.{StopPosition}
+use Rattle.rule_violations.specs.declared.positions.PrintedPosition.{PrintedPosition}
 
 -- the violation at a position with stop n, if the condition holds
-abbrev pub violation_if : Bool → StopPosition → ℕ → ℕ → Option Violation
+abbrev pub violation_if : Bool → PrintedPosition → ℕ → ℕ → Option Violation
 violation_if holds position n by = if holds then Some (record { route = position.route; place = position.place; stop = n; by = by }) else None
 
 -- place i of route k as a position, in which route and place count from 1
-abbrev pub position_at : ℕ → ℕ → StopPosition
+abbrev pub position_at : ℕ → ℕ → PrintedPosition
 position_at k i = record { route = k + 1; place = i + 1 }
 
 -- whether the stop at this position has another first position
-abbrev pub is_repeated : StopPosition → Option StopPosition → Bool
+abbrev pub is_repeated : PrintedPosition → Option PrintedPosition → Bool
 is_repeated position first = option_map_or (λ s. not (s.route == position.route) || not (s.place == position.place)) first false
 
 -- whether the other stop of the pair is in another route than this position
-abbrev pub is_split : List (List ℕ) → StopPosition → Option ℕ → Bool
+abbrev pub is_split : List (List ℕ) → PrintedPosition → Option ℕ → Bool
 is_split routes position other = option_map_or (λ s. not (s.route == position.route)) (option_and_then (first_position routes) other) false
 
 -- whether the pickup of the delivery at this position is later in the route
-abbrev pub is_early_delivery : List (List ℕ) → StopPosition → Option ℕ → Bool
+abbrev pub is_early_delivery : List (List ℕ) → PrintedPosition → Option ℕ → Bool
 is_early_delivery routes position pickup = option_map_or (λ s. s.route == position.route && nat_lt position.place s.place) (option_and_then (first_position routes) pickup) false
 
 -- the violation if the other stop of the pair is in no route
-abbrev pub missing_violation : List (List ℕ) → StopPosition → Option ℕ → Option Violation
+abbrev pub missing_violation : List (List ℕ) → PrintedPosition → Option ℕ → Option Violation
 missing_violation routes position None = None
 missing_violation routes position (Some m) = violation_if (not (has_stop routes m)) position m 0
 
 -- the violation of one of the rules 1 to 5 by stop n at this position
-abbrev pub stop_violation : Instance → List (List ℕ) → Rule → StopPosition → ℕ → Option Violation
+abbrev pub stop_violation : Instance → List (List ℕ) → Rule → PrintedPosition → ℕ → Option Violation
 stop_violation p routes UnknownStop position n = violation_if (is_none (stop_at p n)) position n 0
 stop_violation p routes VisitedTwice position n = violation_if (is_repeated position (first_position routes n)) position n 0
 stop_violation p routes MissingStop position n = missing_violation routes position (partner_at p n)
@@ -51,7 +51,7 @@ stop_violation p routes EarlyDelivery position n = violation_if (is_early_delive
 stop_violation p routes rule position n = None
 
 -- the violation of rule 6 or 7 by stop n at this position, from its visit
-abbrev pub visit_violation : Instance → Rule → StopPosition → ℕ → Visit → Option Violation
+abbrev pub visit_violation : Instance → Rule → PrintedPosition → ℕ → Visit → Option Violation
 visit_violation p Load position n v = violation_if (is_overload p v.load) position n (unsigned_abs (v.load -ℤ pos p.capacity))
 visit_violation p Late position n v = violation_if (is_late p v.start v.stop.latest) position n (v.start - v.stop.latest)
 visit_violation p rule position n v = None
@@ -66,8 +66,8 @@ return_violation p k route = violation_if (returns_late p route) (position_at k 
 
 -- the violations of the items of a list, with items counted from k
 abbrev pub violations_from : {X : Type 0} → (ℕ → X → List Violation) → ℕ → List X → List Violation
-violations_from tell k [] = []
-violations_from tell k (x ∷ xs) = tell k x ++ violations_from tell (k + 1) xs
+violations_from of_item k [] = []
+violations_from of_item k (x ∷ xs) = of_item k x ++ violations_from of_item (k + 1) xs
 
 -- the violations that a test finds at the places of route k
 abbrev pub violations_at_places : (ℕ → List ℕ → ℕ → ℕ → Option Violation) → ℕ → List ℕ → List Violation

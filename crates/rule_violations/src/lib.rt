@@ -46,6 +46,6 @@ pub use laws::{
 };
 pub use limits::{is_late, is_overload};
 pub use missing::missing_stops;
-pub use positions::{StopPosition, first_position};
+pub use positions::{PrintedPosition, first_position};
 pub use returns::visit_after;
 pub use violations::{Violation, violations_of};

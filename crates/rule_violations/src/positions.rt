@@ -5,20 +5,20 @@ ghost use Rattle.rule_violations.specs.Positions.{first_position};
 
 use plan_types::Route;
 
-/// A position in a solution. Routes and places count from 1.
+/// A position in a solution as it is printed: routes and places count from 1.
 #[derive(Clone, Copy, Debug, PartialEq, Eq)]
-pub struct StopPosition {
+pub struct PrintedPosition {
     pub route: u64,
     pub place: u64,
 }
 
 /// Returns the first position of a stop in the routes.
-pub fn first_position(routes: &[Route], stop: u32) -> Option<StopPosition>
+pub fn first_position(routes: &[Route], stop: u32) -> Option<PrintedPosition>
     ensures { result ≡ first_position routes.now stop }
 {
     for (number, route) in routes.iter().enumerate() {
         if let Some(place) = place_in(route.as_slice(), stop) {
-            return Some(StopPosition {
+            return Some(PrintedPosition {
                 route: number as u64 + 1,
                 place,
             });

@@ -2,7 +2,7 @@
 ghost use Rattle.std.specs.Prelude.{◌≡◌, ◌+◌, ◌<◌, ◌^◌, ◌++◌, IfOk, OnOk};
 ghost use Rattle.rule_violations.specs.Violations.{is_early_delivery, is_repeated, is_split, missing_violation, position_at, stop_violation, stop_violations, stop_test, violations_at_places};
 
-use crate::positions::{StopPosition, first_position};
+use crate::positions::{PrintedPosition, first_position};
 use crate::violations::{Violation, add, violation_if};
 use plan_audit::Rule;
 use plan_types::{OutOfMemory, Problem, Route};
@@ -63,12 +63,12 @@ fn add_stops(
 }
 
 /// Returns the position with route and place counted from 1.
-pub(crate) fn position_at(number: usize, place: usize) -> StopPosition
+pub(crate) fn position_at(number: usize, place: usize) -> PrintedPosition
     requires route { number + 1 < 2 ^ 64 }
     requires place { place + 1 < 2 ^ 64 }
     ensures { result ≡ position_at number place }
 {
-    StopPosition {
+    PrintedPosition {
         route: number as u64 + 1,
         place: place as u64 + 1,
     }
@@ -78,7 +78,7 @@ fn stop_violation(
     problem: &Problem,
     routes: &[Route],
     rule: Rule,
-    position: StopPosition,
+    position: PrintedPosition,
     stop: u32,
 ) -> Option<Violation>
     ensures { result ≡ stop_violation problem.now routes.now rule position stop }
@@ -113,7 +113,7 @@ fn stop_violation(
 }
 
 // Returns whether the stop has a first position, and that is not this position.
-fn is_repeated(position: StopPosition, first: Option<StopPosition>) -> bool
+fn is_repeated(position: PrintedPosition, first: Option<PrintedPosition>) -> bool
     ensures { result ≡ is_repeated position first }
 {
     match first {
@@ -125,7 +125,7 @@ fn is_repeated(position: StopPosition, first: Option<StopPosition>) -> bool
 // Returns the violation if the other stop of the pair is in no route.
 fn missing_violation(
     routes: &[Route],
-    position: StopPosition,
+    position: PrintedPosition,
     other: Option<u32>,
 ) -> Option<Violation>
     ensures { result ≡ missing_violation routes.now position other }
@@ -135,7 +135,7 @@ fn missing_violation(
 }
 
 // Returns whether the other stop of the pair is in another route.
-fn is_split(routes: &[Route], position: StopPosition, other: Option<u32>) -> bool
+fn is_split(routes: &[Route], position: PrintedPosition, other: Option<u32>) -> bool
     ensures { result ≡ is_split routes.now position other }
 {
     let Some(other) = other else {
@@ -148,7 +148,7 @@ fn is_split(routes: &[Route], position: StopPosition, other: Option<u32>) -> boo
 }
 
 // Returns whether the pickup is later in the route.
-fn is_early_delivery(routes: &[Route], position: StopPosition, pickup: Option<u32>) -> bool
+fn is_early_delivery(routes: &[Route], position: PrintedPosition, pickup: Option<u32>) -> bool
     ensures { result ≡ is_early_delivery routes.now position pickup }
 {
     let Some(pickup) = pickup else {

@@ -9,7 +9,7 @@ ghost use Rattle.route_sched.specs.Route.{AreDistinctStops};
 ghost use Rattle.rule_violations.specs.Violations.{violation_if, violations_of};
 
 use crate::missing::missing_violations;
-use crate::positions::StopPosition;
+use crate::positions::PrintedPosition;
 use crate::returns::return_violations;
 use crate::stops::stop_violations;
 use crate::visits::visit_violations;
@@ -60,7 +60,7 @@ pub fn violations_of(
 /// Returns the violation at a place if the condition holds.
 pub(crate) fn violation_if(
     holds: bool,
-    position: StopPosition,
+    position: PrintedPosition,
     stop: u32,
     by: u64,
 ) -> Option<Violation>

@@ -4,7 +4,7 @@ ghost use Rattle.route_sched.specs.Route.{AreDistinctStops};
 ghost use Rattle.rule_violations.specs.Violations.{visit_violation, visit_violations, visit_test, violations_at_places};
 
 use crate::limits::{is_late, is_overload};
-use crate::positions::StopPosition;
+use crate::positions::PrintedPosition;
 use crate::stops::position_at;
 use crate::violations::{Violation, add, violation_if};
 use plan_audit::Rule;
@@ -59,7 +59,7 @@ fn add_visits(
 fn visit_violation(
     problem: &Problem,
     rule: Rule,
-    position: StopPosition,
+    position: PrintedPosition,
     stop: u32,
     visit: &Visit,
 ) -> Option<Violation>

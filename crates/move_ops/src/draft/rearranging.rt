@@ -4,6 +4,7 @@
 //! they are broken more often, and then the pairs.
 ghost use Rattle.std.specs.Prelude.{◌≡◌, ◌==◌, ◌&&◌, ◌≤◌, ◌⊎◌, not, nat_eq, map, length, IsSome, IfSome, IfOk, OnOk, OnErr};
 ghost use Rattle.std.specs.List.{concat, IsDistinct};
+ghost use Rattle.plan_types.specs.declared.limits.TheConstants.{MAX_FLEET};
 ghost use Rattle.plan_types.specs.Request.{stop_in};
 ghost use Rattle.move_ops.specs.Insertion.{route_of};
 ghost use Rattle.move_ops.specs.Legs.{cuts_of, IsCutOf};
@@ -121,7 +122,7 @@ impl Draft {
     // Returns the changed routes of an exchange: each stop of one request takes the place of its counterpart in
     // the other. Only vehicles with a stop of the two requests are in the list.
     fn exchanges(&self, first: &Request, second: &Request) -> Result<Vec<Change>, OutOfMemory>
-        requires few { length (draft_of self.now) ≤ 40000 }
+        requires few { length (draft_of self.now) ≤ MAX_FLEET }
         requires once { IsDistinct nat_eq (concat (draft_of self.now)) }
         ensures { IfOk result (λ changes. AreChanges (draft_of self.now)
             (map (map (counterpart first.now second.now)) (draft_of self.now)) changes.items) }
@@ -138,7 +139,7 @@ impl Draft {
         second: &Request,
         vehicles: &[u64],
     ) -> Result<Vec<Change>, OutOfMemory>
-        requires few { length (draft_of self.now) ≤ 40000 }
+        requires few { length (draft_of self.now) ≤ MAX_FLEET }
         requires within { AreIn (draft_of self.now) vehicles.now }
         requires found { AreVehiclesOf (draft_of self.now)
             (λ n. IsSome (stop_in n first.now) ⊎ IsSome (stop_in n second.now)) vehicles.now }

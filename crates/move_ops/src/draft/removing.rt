@@ -10,6 +10,7 @@ ghost use Rattle.route_sched.specs.Cost.{has_stop, is_planned};
 ghost use Rattle.move_ops.specs.Changes.{changes_of, distinct_count, removals, with_routes, AreCourses, AreIn, AreToursOf, AreVehiclesToChange, IsChange, IsRemoval, Collects};
 ghost use Rattle.move_ops.specs.Moves.{removed, without_named, is_of_named, is_movable_name};
 ghost use Rattle.std.specs.List.{concat, list_all, IsDistinct};
+ghost use Rattle.plan_types.specs.declared.limits.TheConstants.{MAX_FLEET};
 ghost use Rattle.plan_types.specs.Request.{stop_in};
 ghost use Rattle.plan_audit.specs.Passes.{feasible_alone, has};
 ghost use Rattle.route_sched.specs.Route.{AreDistinctStops};
@@ -154,7 +155,7 @@ impl Draft {
         vehicles: &[u64],
     ) -> Result<Option<Vec<(u32, Tour)>>, OutOfMemory>
         requires tables { AreTablesIn problem.now self.old.tours }
-        requires few { length self.old.tours ≤ 40000 }
+        requires few { length self.old.tours ≤ MAX_FLEET }
         requires within { AreIn (draft_of self.old) vehicles.now }
         requires once { All (λ c. AreDistinctStops problem.now c.route)
             (removals problem.now names.now (draft_of self.old) vehicles.now) }

@@ -12,5 +12,5 @@ is_feasible-requires c =
     let same : c.as_slice-3.result.now ≡ route_without p c.args.name c.args.route.now = search rules in
     let here : AreDistinctStops (without_request p c.args.name)
     (route_without p c.args.name c.args.route.now) = without_once c.take_removes_one_request.ensures.others p c.args.name c.requires.valid c.args.route.now
-    c.requires.live in
+    c.requires.distinct in
     subst (λ (q : Instance). AreDistinctStops q c.as_slice-3.result.now) (sym c.requires.taken) (subst (λ (l : List ℕ). AreDistinctStops (without_request p c.args.name) l) (sym same) here)

@@ -2,13 +2,13 @@
 use Rattle.std.proofs.Common.{rules, ◌≡◌, ◌∙◌, [], refl, subst, sym, Err, None, Some}
 use Rattle.std.specs.Prelude.{⊤}
 use Rattle.std.proofs.lemmas.Result.{err_from_is_err_and}
-use Rattle.command_text.specs.Answering.{executed_all, commands_of}
+use Rattle.command_text.specs.Answering.{operations_reply, commands_of}
 use Rattle.command_server.specs.ServeSteps.{Answers, silent}
 use Rattle.command_server.proofs.ServeLemmas.{all_done, answers_after, serves_further, serves_nothing, step_denied, step_done}
 use Rattle.command_server.proofs.answering.make_steps.Goals as goal
 
 pub loop-command-init : goal.loop-command-init
-loop-command-init g c = (serves_nothing c.args.session.now (λ s. executed_all s (commands_of c.args.steps c.args.session.now.state)) (g.W.Sink.stream c.args.writer.now), refl)
+loop-command-init g c = (serves_nothing c.args.session.now (λ s. operations_reply s (commands_of c.args.steps c.args.session.now.state)) (g.W.Sink.stream c.args.writer.now), refl)
 
 pub returns-in-Err-clause-answers : goal.returns-in-Err-clause-answers
 returns-in-Err-clause-answers g c =
@@ -41,6 +41,6 @@ returns-in_err-write_progress-clause-answers g c =
     let reports = step_done c.loop-command.session new c.loop-command.left c.in-Some.rest c.in-Some.command c.apply.result c.state.ensures.state c.in-Some.ensures
     c.apply.ensures c.progress_after-progress.result c.in_default-answer.field-0
     c.progress_after-progress.ensures c.in_default-answer.is in
-    subst (λ r. Answers g.D.Sectors r old (λ s. executed_all s first) before after new silent) (sym reported.1)
+    subst (λ r. Answers g.D.Sectors r old (λ s. operations_reply s first) before after new silent) (sym reported.1)
     (answers_after {T = ⊤} (Err reported.0) (Some (commands_of c.in-Some.rest new.state))
     (commands_of c.loop-command.left c.loop-command.session.state) after c.loop-command.invariant.0 reports c.in_err-write_progress.ensures.reported)

@@ -2,9 +2,9 @@
 use Rattle.std.proofs.Common.{◌++◌, ap, false, refl, subst, sym}
 use Rattle.std.proofs.lemmas.Result.{err_from_is_err_and}
 use Rattle.command_types.specs.declared.refusals.Refusal.TheVariants as core
-use Rattle.command_text.specs.Answering.{answered, line_then_ok}
+use Rattle.command_text.specs.Answering.{answer_reply, line_then_ok}
 use Rattle.command_text.specs.Answers.{answer_text, help_text, line}
-use Rattle.command_text.specs.Cutting.{announced, is_end}
+use Rattle.command_text.specs.Cutting.{announced_len, is_end}
 use Rattle.command_text.specs.Laws.{cut_at}
 use Rattle.command_text.specs.declared.answers.Answer.TheVariants as answer
 use Rattle.command_server.specs.Input.{left_of}
@@ -20,19 +20,19 @@ use Rattle.command_server.proofs.answering.serve_command.Goals as goal
 pub returns-in-BadText-clause-serves : goal.returns-in-BadText-clause-serves
 returns-in-BadText-clause-serves g c = λ reading rest how is fits known.
     line_ends g.D.Sectors c.args.session.now _ _ _ _ reading rest c.in-BadText.is c.write_answer-in-BadText.result c.flow_or_fault-in-BadText.ensures refl known
-    (answers_reported c.write_answer-in-BadText.result _ _ (reports_same c.args.session.now (λ s. answered s answer.BadLine) answer.BadLine (λ fates. refl))
+    (answers_reported c.write_answer-in-BadText.result _ _ (reports_same c.args.session.now (λ s. answer_reply s answer.BadLine) answer.BadLine (λ fates. refl))
     c.write_answer-in-BadText.ensures.reported)
 
 pub returns-in-TextRange-clause-serves : goal.returns-in-TextRange-clause-serves
 returns-in-TextRange-clause-serves g c = λ reading rest how is fits known.
     line_ends g.D.Sectors c.args.session.now _ _ _ _ reading rest c.in-TextRange.is c.write_answer-in-TextRange.result c.flow_or_fault-in-TextRange.ensures refl known
-    (answers_reported c.write_answer-in-TextRange.result _ _ (reports_same c.args.session.now (λ s. answered s (answer.Refused core.Range)) (answer.Refused core.Range)
+    (answers_reported c.write_answer-in-TextRange.result _ _ (reports_same c.args.session.now (λ s. answer_reply s (answer.Refused core.Range)) (answer.Refused core.Range)
     (λ fates. refl)) c.write_answer-in-TextRange.ensures.reported)
 
 pub returns-in-BadLine-clause-serves : goal.returns-in-BadLine-clause-serves
 returns-in-BadLine-clause-serves g c = λ reading rest how is fits known.
     line_on g.D.Sectors c.args.session.now _ _ _ _ reading rest c.in-BadLine.is c.write_answer-in-BadLine.result c.flow_or_fault-in-BadLine.ensures refl known
-    (answers_reported c.write_answer-in-BadLine.result _ _ (reports_same c.args.session.now (λ s. answered s answer.BadLine) answer.BadLine (λ fates. refl))
+    (answers_reported c.write_answer-in-BadLine.result _ _ (reports_same c.args.session.now (λ s. answer_reply s answer.BadLine) answer.BadLine (λ fates. refl))
     c.write_answer-in-BadLine.ensures.reported)
 
 pub returns-in-Refused-clause-serves : goal.returns-in-Refused-clause-serves
@@ -147,7 +147,7 @@ pub returns-in-Help-clause-taken : goal.returns-in-Help-clause-taken
 returns-in-Help-clause-taken g c = reported_on g.R.Source _ c.args.input.now c.args.reader.now c.in-Help.is c.write_line_and_ok.result c.flow_or_fault-in-Help.ensures refl refl
 
 pub returns-in-Nothing-clause-taken : goal.returns-in-Nothing-clause-taken
-returns-in-Nothing-clause-taken g c = line_takes g.R.Source c.args.requested c.args.input.now c.args.reader.now (ap announced c.in-Nothing.is) (ap (λ a. is_end a false) c.in-Nothing.is)
+returns-in-Nothing-clause-taken g c = line_takes g.R.Source c.args.requested c.args.input.now c.args.reader.now (ap announced_len c.in-Nothing.is) (ap (λ a. is_end a false) c.in-Nothing.is)
 
 pub returns-in_ok-text-in-Text-clause-taken : goal.returns-in_ok-text-in-Text-clause-taken
 returns-in_ok-text-in-Text-clause-taken g c =

@@ -1,6 +1,6 @@
 -- The cases of the result of reading the announced bytes.
 use Rattle.std.proofs.Common.{refl, subst, sym}
-use Rattle.command_text.specs.Answering.{answered}
+use Rattle.command_text.specs.Answering.{answer_reply}
 use Rattle.command_text.specs.Answers.{answer_text, line}
 use Rattle.command_text.specs.declared.answers.Answer.TheVariants as answer
 use Rattle.command_server.specs.ServeContract.{Reports}
@@ -12,7 +12,7 @@ pub returns-in-Short : goal.returns-in-Short
 returns-in-Short g c = λ reading bytes is.
     let old = c.args.session.now in
     subst (λ t. Reports g.D.Sectors old (announced_reply t reading c.args.purpose bytes) (line (answer_text answer.Truncated)) old silent) (sym c.in-Short.is)
-    (reports_same old (λ s. answered s answer.Truncated) answer.Truncated (λ fates. refl))
+    (reports_same old (λ s. answer_reply s answer.Truncated) answer.Truncated (λ fates. refl))
 
 pub returns-in-Dropped : goal.returns-in-Dropped
 returns-in-Dropped g c = λ reading bytes is.

@@ -5,7 +5,7 @@ use Rattle.std.specs.Option.{option_map}
 use Rattle.std.proofs.lemmas.Iterator.Consumers.{nth_from_yields_List, YieldsList-from_first}
 use Rattle.route_sched.specs.VisitsValue.{VisitsValue}
 use Rattle.route_sched.specs.VisitList.{visits_from}
-use Rattle.rule_violations.proofs.StepLemmas.{visit_there, visit_told}
+use Rattle.rule_violations.proofs.StepLemmas.{visit_there, visit_reported}
 use Rattle.rule_violations.proofs.returns.visit_after.Goals as goal
 use Rattle.rule_violations.proofs.returns.visit_after.Goals.{After-nth}
 
@@ -18,7 +18,7 @@ nth_visit c =
 
 pub returns : goal.returns
 returns c =
-    visit_told c.args.problem.now c.args.route.now c.args.place c.nth.result c.in-Some.visit c.requires.within c.in-Some.is
+    visit_reported c.args.problem.now c.args.route.now c.args.place c.nth.result c.in-Some.visit c.requires.within c.in-Some.is
     (nth_visit (goal.at.returns c).After-nth)
 
 pub unreachable-requires : goal.unreachable-requires
