@@ -35,7 +35,24 @@ const BAD_DRAWING: &str =
 const BAD_TIMETABLE: &str =
     "the arguments are STORE [tabs] or KIND INSTANCE SOLUTION [tabs], and KIND is lilim, solomon or vrp";
 
-static KINDS: [&str; 3] = ["lilim", "solomon", "vrp"];
+// A format, and perhaps its scale after a colon.
+static KINDS: [&str; 15] = [
+    "lilim",
+    "lilim:1",
+    "lilim:10",
+    "lilim:100",
+    "lilim:1000",
+    "solomon",
+    "solomon:1",
+    "solomon:10",
+    "solomon:100",
+    "solomon:1000",
+    "vrp",
+    "vrp:1",
+    "vrp:10",
+    "vrp:100",
+    "vrp:1000",
+];
 
 static MODES: [&str; 1] = ["strict"];
 
