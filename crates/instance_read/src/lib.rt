@@ -37,6 +37,7 @@
 //! - `vrp`: the reader of `.vrp` texts
 //! - `formats`: the formats, and the words that name them
 //! - `instance`: the reader of texts in any format
+//! - `distances`: published distances, which may have decimals
 //! - `number_evidence`, `lilim_evidence`, `solomon_evidence`, `vrp_evidence`, `evidence`: the details of a fault
 //!   that its line shows
 //! - `laws`: what the lines of a `.vrp` text are, that every text is read, what a scale changes, and what evidence
@@ -49,6 +50,7 @@
 //! the first such word of the line.
 #![tactic(auto)]
 
+mod distances;
 mod entries;
 mod evidence;
 mod faults;
@@ -75,6 +77,7 @@ mod vrp_fields;
 mod vrp_lines;
 mod vrp_problem;
 
+pub use distances::published_distance;
 pub use evidence::{Evidence, Excerpt, Field, SolomonLine, evidence_of};
 pub use faults::{ReadFault, ReadFaultKind};
 pub use field_limits::Limits;
