@@ -143,7 +143,8 @@ pub(crate) const AUDITS_ABOUT: &str = "Audits a list of solutions";
 
 pub(crate) const AUDITS_ANSWERS: &str =
     "Each line of the list has the path of an instance and the path of a solution, separated by a tab. After a second tab\n\
-    it may have the best-known cost of the instance: [VEHICLES ]DISTANCE, or DISTANCE for a vrp instance.\n\
+    it may have the best-known cost of the instance: [VEHICLES ]DISTANCE, or DISTANCE for a vrp instance. It is in the\n\
+    unit of the instance's file: with KIND lilim:1000 it may have three decimals.\n\
     LIST may be - for standard input. For each line of the list it prints one line:\n  \
     INSTANCE  SOLUTION  ANSWER    separated by tabs; ANSWER is the line of `audit`\n  \
     bad line                      it is not two paths, or the best-known cost is not a cost or has distance 0 (status 2)\n\n\
