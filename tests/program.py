@@ -212,10 +212,10 @@ NOT_GIVEN = "the following required arguments were not provided:"
 BAD_STEPS = "STEPS and DEVIATION are 0 to 1000000000 and SEED is 0 to 18446744073709551615, with digits only"
 BAD_SEED = "SEED is 0 to 18446744073709551615, with digits only"
 BAD_TASKS = "STEPS is 0 to 1000000000 and SEED is 0 to 18446744073709551615, with digits only"
-BAD_AUDIT = "the arguments are KIND INSTANCE SOLUTION [routes], and KIND is lilim, solomon or vrp"
-BAD_AUDITS = "the arguments are KIND LIST [routes], and KIND is lilim, solomon or vrp"
-BAD_DRAWING = "the arguments are STORE [ROUTE] or KIND INSTANCE SOLUTION [ROUTE], KIND is lilim, solomon or vrp, and ROUTE is a number with digits only"
-BAD_TIMETABLE = "the arguments are STORE [tabs] or KIND INSTANCE SOLUTION [tabs], and KIND is lilim, solomon or vrp"
+BAD_AUDIT = "the arguments are KIND INSTANCE SOLUTION [routes], and KIND is lilim, solomon or vrp, perhaps with :10, :100 or :1000"
+BAD_AUDITS = "the arguments are KIND LIST [routes], and KIND is lilim, solomon or vrp, perhaps with :10, :100 or :1000"
+BAD_DRAWING = "the arguments are STORE [ROUTE] or KIND INSTANCE SOLUTION [ROUTE], KIND is lilim, solomon or vrp, perhaps with :10, :100 or :1000, and ROUTE is a number with digits only"
+BAD_TIMETABLE = "the arguments are STORE [tabs] or KIND INSTANCE SOLUTION [tabs], and KIND is lilim, solomon or vrp, perhaps with :10, :100 or :1000"
 REFUSED = [
     (["audit", "lilim", "a"], NOT_GIVEN),
     (["audit", "lilim", "a", "b", "c"], BAD_AUDIT),

@@ -37,7 +37,7 @@ ELSEWHERE = {
     "seq 16 | parallel --sshlogin": "two machines",
     "seq 16 | parallel 'planner solve": "many.sh",
     "for it in $(cut": "published.sh",
-    "./planner solve lilim lc101.milli": "published.sh",
+    "./planner solve lilim:1000 lc101.txt": "published.sh",
     "now=600": "store.py",
     "cp day.store day.new": "store.py",
     "./planner instance day.store": "adopt.py",
