@@ -214,6 +214,7 @@ pub(crate) const SOLVE_ABOUT: &str = "Solves an instance";
 
 pub(crate) const SOLVE_ANSWERS: &str =
     "It builds a plan, searches for a better one, and prints it as a solution (status 0).\n\
+    For KIND vrp with at most 300 customers and no DEVIATION, 64 steps are one iteration of a hybrid genetic search.\n\
     If the plan leaves requests out, the solution has no cost line (status 1).\n\
     On standard error it prints:\n  \
     at STEPS UNPLANNED VEHICLES DISTANCE    progress at the start and about every 5% of the steps; while it looks for fewer vehicles, every 524,288 steps\n  \
