@@ -2,8 +2,9 @@
 """Compares the results of the built program after many steps with those of another program that follows the
 same rules. The numbers must be equal.
 
-1. `solve`: each line of progress, by the operations of `anneal 0 STEPS` and by a search with a deviation, on
-   eight Li-Lim instances: five with vehicles to spare, and three whose fleets are too small for all requests.
+1. The command `anneal 0 STEPS`: each twentieth of the steps, by a store for .vrp instances, and by `solve` for
+   Li-Lim instances, which makes its operations. Five of these have vehicles to spare, and three have fleets that
+   are too small for all requests. `solve` by a search with a deviation, on instances of both kinds.
 2. More than 65,536 steps in one uninterrupted run: a stage of 70,000, and an annealing of as many in a store,
    with both plans.
 3. The same number of steps through a store, by a command `anneal 0 STEPS` and by one of a search, gives the
@@ -79,12 +80,18 @@ def tried(told):
     return "".join(f"at {step} {line}\n" for step, line in zip(steps, told.split(", "), strict=True))
 
 
+# The instance, the steps, the seed, and the expected lines of a store at the twentieths of the steps. `solve` has
+# another search for these instances.
+STAGED = [
+    (fifty(), STEPS, 1, staged(FIFTY_1)),
+    (fifty(), STEPS, 2, staged(FIFTY_2)),
+    (customers(80), STEPS, 1, staged(CUSTOMERS_1)),
+    (customers(80), STEPS, 2, staged(CUSTOMERS_2)),
+    (SIX, 1_400_000, 1, staged([66] + 20 * [62], 1_400_000)),
+]
+
 # The kind, the instance, the steps, the seed, and the expected beginning of standard error.
 SOLVED = [
-    ("vrp", fifty(), STEPS, 1, staged(FIFTY_1)),
-    ("vrp", fifty(), STEPS, 2, staged(FIFTY_2)),
-    ("vrp", customers(80), STEPS, 1, staged(CUSTOMERS_1)),
-    ("vrp", customers(80), STEPS, 2, staged(CUSTOMERS_2)),
     ("lilim", pairs(40), STEPS, 1, tried(FORTY_1)),
     ("lilim", pairs(80), STEPS, 1, tried(EIGHTY_1)),
     ("lilim", pairs(80), STEPS, 2, tried(EIGHTY_2)),
@@ -95,7 +102,6 @@ SOLVED = [
     ("lilim", pairs(80, 9), STEPS, 1, tried(SHORT_1)),
     ("lilim", pairs(80, 7), STEPS, 1, tried(SHORTER_1)),
     ("lilim", pairs(200, 21), STEPS, 2, tried(SHORT_OF_MANY_2)),
-    ("vrp", SIX, 1_400_000, 1, staged([66] + 20 * [62], 1_400_000)),
 ]
 
 # The kind, the instance, the seed and the deviation of a search with the same number of steps, and the vehicles
@@ -166,11 +172,23 @@ def check_solved(folder):
             expect(f"{what}, its last line", plan.splitlines()[-1], "Cost " + distance)
 
 
+def check_staged(folder):
+    for instance, steps, seed, told in STAGED:
+        what = f"a store by {steps} steps of seed {seed}"
+        _, plan, errors = outcome("solve", "vrp", written(folder, instance), 0, seed)
+        built, _, answers = session(folder, "vrp", instance, seed, f"build\nprint\nanneal 0 {steps}\n").partition("at ")
+        expect(f"{what}, the built plan", built, f"ok\n{plan}ok\n")
+        answers = "at " + answers
+        at_twentieths = [line for line in answers.splitlines(keepends=True) if line.startswith("at ") and int(line.split()[1]) % (steps // 20) == 0]
+        expect(what, errors.splitlines(keepends=True)[0] + "".join(at_twentieths), told)
+
+
 def check_searched(folder):
     for kind, instance, seed, deviation, vehicles, distance in SEARCHED:
         what = f"solve {kind} by a search of seed {seed}"
         status, plan, errors = outcome("solve", kind, written(folder, instance), STEPS, seed, deviation)
-        expect(what, (status, errors.splitlines()[-1]), (0, f"at {STEPS} 0 {vehicles} {distance}"))
+        told = [line for line in errors.splitlines() if line.startswith("at ")]
+        expect(what, (status, told[-1]), (0, f"at {STEPS} 0 {vehicles} {distance}"))
         expect(f"{what}, its last line", plan.splitlines()[-1], f"Cost {distance}")
         answers = session(folder, kind, instance, seed, f"build\ndeviation {deviation}\nsearch {STEPS}\nprint\n")
         expect(f"{what}, its lines through a store", answers.count("at "), -(-STEPS // 256))
@@ -187,10 +205,11 @@ def check_annealed(folder):
 def main():
     require_program()
     with tempfile.TemporaryDirectory() as folder:
+        check_staged(folder)
         check_solved(folder)
         check_searched(folder)
         check_annealed(folder)
-    print(f"costs: {len(SOLVED) + len(SEARCHED) + 1} plans cost exactly what another program found")
+    print(f"costs: {len(STAGED) + len(SOLVED) + len(SEARCHED) + 1} plans cost exactly what another program found")
 
 
 main()

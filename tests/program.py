@@ -24,7 +24,7 @@ import tempfile
 
 # Python leaves no files beside the scripts.
 sys.dont_write_bytecode = True
-from planner import PROGRAM, STORE_BYTES, expect, outcome, require_program, run  # noqa: E402
+from planner import EXAMPLES, PROGRAM, STORE_BYTES, expect, outcome, require_program, run  # noqa: E402
 
 # One pickup and its delivery, at (3, 4) and (6, 8), from a depot at (0, 0): a distance of 5 + 5 + 10. In the
 # variants the delivery's latest start, the depot's latest return, the capacity and the delivery's partner
@@ -212,10 +212,10 @@ NOT_GIVEN = "the following required arguments were not provided:"
 BAD_STEPS = "STEPS and DEVIATION are 0 to 1000000000 and SEED is 0 to 18446744073709551615, with digits only"
 BAD_SEED = "SEED is 0 to 18446744073709551615, with digits only"
 BAD_TASKS = "STEPS is 0 to 1000000000 and SEED is 0 to 18446744073709551615, with digits only"
-BAD_AUDIT = "the arguments are KIND INSTANCE SOLUTION [routes], and KIND is lilim, solomon or vrp"
-BAD_AUDITS = "the arguments are KIND LIST [routes], and KIND is lilim, solomon or vrp"
-BAD_DRAWING = "the arguments are STORE [ROUTE] or KIND INSTANCE SOLUTION [ROUTE], KIND is lilim, solomon or vrp, and ROUTE is a number with digits only"
-BAD_TIMETABLE = "the arguments are STORE [tabs] or KIND INSTANCE SOLUTION [tabs], and KIND is lilim, solomon or vrp"
+BAD_AUDIT = "the arguments are KIND INSTANCE SOLUTION [routes], and KIND is lilim, solomon or vrp, perhaps with :10, :100 or :1000"
+BAD_AUDITS = "the arguments are KIND LIST [routes], and KIND is lilim, solomon or vrp, perhaps with :10, :100 or :1000"
+BAD_DRAWING = "the arguments are STORE [ROUTE] or KIND INSTANCE SOLUTION [ROUTE], KIND is lilim, solomon or vrp, perhaps with :10, :100 or :1000, and ROUTE is a number with digits only"
+BAD_TIMETABLE = "the arguments are STORE [tabs] or KIND INSTANCE SOLUTION [tabs], and KIND is lilim, solomon or vrp, perhaps with :10, :100 or :1000"
 REFUSED = [
     (["audit", "lilim", "a"], NOT_GIVEN),
     (["audit", "lilim", "a", "b", "c"], BAD_AUDIT),
@@ -675,8 +675,9 @@ SOLUTIONS = [
     ("lilim", DEPOT_ALONE, 20, None, "at 0 0 0 0\n" + "".join(f"at {step} 0 0 0\n" for step in range(10, 21)), "Cost 0\n", "Cost 0"),
     ("lilim", DEPOT_ALONE, 20, 5, "".join(f"at {step} 0 0 0\n" for step in range(21)), "Cost 0\n", "Cost 0"),
     ("lilim", LATE_PAIR, 1, None, "at 0 1 1 20\nat 1 1 1 20\nunplanned 1: 3\n", "Route #1: 1 2\n", "Route #1: 1 2"),
-    ("vrp", SIX, 7, None, "at 0 0 0 66\nat 1 0 0 65\nat 2 0 0 65\nat 3 0 0 65\nat 4 0 0 65\nat 5 0 0 65\nat 6 0 0 63\nat 7 0 0 63\n", "Route", "Cost 63"),
-    ("vrp", SIX, 30, None, "at 0 0 0 66\n", "Route", "Cost 62"),
+    # An iteration of the hybrid search counts as 64 steps. The shortest plan, by all partitions and orders, is 62.
+    ("vrp", SIX, 63, None, "at 0 0 0 66\n", "Route", "Cost 66"),
+    ("vrp", SIX, 6_463, None, "at 0 0 0 66\nat 320 0 0 6", "Route", "Cost 62"),
     ("vrp", SIX, 2, 3, "at 0 0 0 66\nat 1 0 0 ", "Route", None),
     ("lilim", FOUR_PAIRS, 40, None, "at 0 0 3 68\nat 20 0 2 70\nat 22 0 2 65\n", "Route", "Cost 65"),
     ("lilim", FOUR_PAIRS, 7, None, "at 0 0 3 68\nat 3 0 3 68\nat 4 0 3 68\nat 5 0 2 70\nat 6 0 2 70\nat 7 0 2 65\n", "Route", "Cost 65"),
@@ -760,13 +761,14 @@ def check_same_search(folder):
         solved = folder.planner("solve", "vrp", folder.write("six.vrp", SIX), "5", str(seed), "1000000000")
         expect(f"solve by seed {seed}", solved[1] + "ok\n", text[text.index("Route #1"):])
     texts = {}
+    fifty = EXAMPLES / "public" / "E-n51-k5.vrp"
     for words in [], ["0"], ["7"], [str(2**64 - 1)]:
-        name = "_".join(["six", *words]) + ".sol"
-        folder.planner("solves", "vrp", "-", "5", *words, lines=f"six.vrp\t{name}\n")
+        name = "_".join(["fifty", *words]) + ".sol"
+        folder.planner("solves", "vrp", "-", "64", *words, lines=f"{fifty}\t{name}\n")
         with open(folder.file(name), encoding="ascii") as file:
             texts[name] = file.read()
-        expect(f"solves by seed {words}", texts[name], folder.planner("solve", "vrp", "six.vrp", "5", *words)[1])
-    expect("solves without a seed", texts["six.sol"], texts["six_0.sol"])
+        expect(f"solves by seed {words}", texts[name], folder.planner("solve", "vrp", fifty, "64", *words)[1])
+    expect("solves without a seed", texts["fifty.sol"], texts["fifty_0.sol"])
     expect("whether seeds find other plans", len(set(texts.values())) > 1, True)
 
 

@@ -29,7 +29,7 @@ AS_SHOWN = (
     "./planner explain lilim",
     "./planner load day.store",
     "./planner load sound.store",
-    "./planner solve vrp examples/public/E-n51-k5.vrp 1 9",
+    "./planner load step.store vrp examples/public/E-n51-k5.vrp 9",
     "./planner solve vrp examples/public/E-n51-k5.vrp 1000 1",
 )
 # The beginnings of the guides' blocks that other tests run, with these tests. No test runs the first one.
@@ -37,7 +37,7 @@ ELSEWHERE = {
     "seq 16 | parallel --sshlogin": "two machines",
     "seq 16 | parallel 'planner solve": "many.sh",
     "for it in $(cut": "published.sh",
-    "./planner solve lilim lc101.milli": "published.sh",
+    "./planner solve lilim:1000 lc101.txt": "published.sh",
     "now=600": "store.py",
     "cp day.store day.new": "store.py",
     "./planner instance day.store": "adopt.py",
@@ -116,7 +116,8 @@ def end_readme(begun):
         expect(f"{commands!r}: whether it is marked as not proved", "not yet proved" in errors, "./trial " in commands)
         if "night.store" in commands:
             stored = run(folder, "echo print | ./planner run night.store | sed '1d;$d'")
-            expect("the plan of a search that was killed", stored, run(folder, "./planner solve vrp examples/public/E-n51-k5.vrp 1000000 1"))
+            run(folder, "./planner load whole.store vrp examples/public/E-n51-k5.vrp 1 && printf 'build\nanneal 0 1000000\n' | ./planner run whole.store")
+            expect("the plan of a search that was killed", stored, run(folder, "echo print | ./planner run whole.store | sed '1d;$d'"))
     print(f"readme: README's {len(begun)} blocks of commands print what it shows")
 
 

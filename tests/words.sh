@@ -101,8 +101,8 @@ got=$("$program" solve lilim lc101.txt 100 2>/dev/null | "$program" audit lilim 
 [ "${got%% *}" = 'pass' ] || fail "audit of a solution on standard input: $got"
 
 expect 64 '' 'error: the following required arguments were not provided:' audit
-expect 64 '' 'error: the arguments are KIND INSTANCE SOLUTION [routes], and KIND is lilim, solomon or vrp' audit lilim one-pair.txt one-pair.sol more
-expect 64 '' 'error: the arguments are KIND LIST [routes], and KIND is lilim, solomon or vrp' audits lilim pairs more
+expect 64 '' 'error: the arguments are KIND INSTANCE SOLUTION [routes], and KIND is lilim, solomon or vrp, perhaps with :10, :100 or :1000' audit lilim one-pair.txt one-pair.sol more
+expect 64 '' 'error: the arguments are KIND LIST [routes], and KIND is lilim, solomon or vrp, perhaps with :10, :100 or :1000' audits lilim pairs more
 expect 64 '' "error: unexpected argument 'more' found" audit lilim one-pair.txt one-pair.sol routes more
 expect 64 '' "error: invalid value 'LILIM' for '<KIND>'" audit LILIM one-pair.txt one-pair.sol
 expect 64 '' "error: unrecognized subcommand 'judge'" judge one-pair.txt one-pair.sol
@@ -152,7 +152,7 @@ got=$(sed 's/^Route #5:.*//' lc101.sol | "$program" explain lilim lc101.txt - | 
 expect 0 'pass 0 10 829' '' timetable lilim lc101.txt lc101.sol
 expect 1 'broken 5 route 1 place 1 stop 2' '' timetable lilim one-pair.txt one-pair-reversed.sol tabs
 expect 3 'cannot read nowhere' 'planner: nowhere: No such file or directory (os error 2)' timetable nowhere tabs
-expect 64 '' 'error: the arguments are STORE [tabs] or KIND INSTANCE SOLUTION [tabs], and KIND is lilim, solomon or vrp' timetable lilim one-pair.txt
+expect 64 '' 'error: the arguments are STORE [tabs] or KIND INSTANCE SOLUTION [tabs], and KIND is lilim, solomon or vrp, perhaps with :10, :100 or :1000' timetable lilim one-pair.txt
 [ "$("$program" timetable lilim lc101.txt lc101.sol tabs | sed -n 3p)" = "$(printf 'stop\t1\t1\t5\tpickup\t7\t0\t15\t15\t0\t90\t15\t67\t36\t10\t-')" ] || fail "timetable: not the first stop"
 expect 0 "$(head -n 1 lc101.svg)" '' draw lilim lc101.txt lc101.sol
 expect 2 '' 'solution BadLine 1' draw lilim one-pair.txt one-pair.txt
@@ -325,7 +325,7 @@ done
 expect 3 '' 'planner: nowhere: No such file or directory (os error 2)' draw nowhere
 [ "$("$program" draw "$folder/drawn.store" 3)" = "$("$program" draw lilim lc101.txt "$folder/drawn.sol" 3)" ] || fail "draw: not the route of the store's vehicle"
 expect 2 '' 'no NoSuchRoute' draw "$folder/drawn.store" 26
-expect 64 '' 'error: the arguments are STORE [ROUTE] or KIND INSTANCE SOLUTION [ROUTE], KIND is lilim, solomon or vrp, and ROUTE is a number with digits only' draw lilim one-pair.txt
+expect 64 '' 'error: the arguments are STORE [ROUTE] or KIND INSTANCE SOLUTION [ROUTE], KIND is lilim, solomon or vrp, perhaps with :10, :100 or :1000, and ROUTE is a number with digits only' draw lilim one-pair.txt
 
 # A solution on standard input becomes the store's plan, and the instance of the store audits it.
 [ "$("$program" adopt "$folder/drawn.store" - <lc101.sol)" = 'ok' ] || fail "adopt of a solution on standard input"

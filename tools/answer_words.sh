@@ -76,7 +76,7 @@ check_words() {
     done
     [ $# -eq 0 ] || refuse "unexpected argument '$1' found" "$usage"
     [ -z "$missing" ] || refuse "the following required arguments were not provided:$missing" "$usage"
-    $is_flag || refuse "the arguments are $(printf '%s' "${usage#"Usage: planner $name "}" | tr -d '<>'), and KIND is lilim, solomon or vrp" "$usage"
+    $is_flag || refuse "the arguments are $(printf '%s' "${usage#"Usage: planner $name "}" | tr -d '<>'), and KIND is lilim, solomon or vrp, perhaps with :10, :100 or :1000" "$usage"
 }
 
 [ $# -gt 0 ] || exit 1

@@ -1,16 +1,18 @@
 -- The syntax of a best-known cost of an instance, and the comparison of a plan's cost with it.
-use Rattle.std.specs.Prelude.{ℕ, ◌==◌, ◌^◌, Bool, if◌then◌else◌, List, [], ◌∷◌, Option, Some, None, option_and_then}
+use Rattle.std.specs.Prelude.{ℕ, ◌==◌, ◌^◌, Bool, if◌then◌else◌, List, [], ◌∷◌, Option, Some, None}
 use Rattle.std.specs.List.{list_any}
 use Rattle.plan_types.specs.declared.plans.Cost.{Cost}
 use Rattle.plan_types.specs.declared.requests.Kind.{Kind}
 use Rattle.plan_types.specs.declared.requests.Kind.TheVariants.{LiLim, Vrp}
+use Rattle.instance_read.specs.Distances.{published_distance}
 use Rattle.instance_read.specs.Formats.{kind_of}
 use Rattle.instance_read.specs.declared.formats.Format.{Format}
-use Rattle.text_lines.specs.Numbers.{below, digits_of, magnitude, number_of}
+use Rattle.instance_read.specs.declared.scales.Scale.{Scale}
+use Rattle.text_lines.specs.Numbers.{below, digits_of}
 use Rattle.text_lines.specs.Words.{words_of}
 use Rattle.auditor_cli.specs.Gaps.{gap_text, vehicles_text}
 
--- a best-known cost: the number of vehicles, if it is known, and the distance, at least 1
+-- a best-known cost: the number of vehicles, if it is known, and the distance times the scale, at least 1
 pub record BestCost : Type 0 where
   pub vehicles : Option ℕ
   pub distance : ℕ
@@ -18,10 +20,6 @@ pub record BestCost : Type 0 where
 -- the number of vehicles that a word of digits spells, at most 4,294,967,295
 abbrev pub vehicles_in : List ℕ → Option ℕ
 vehicles_in word = below (2 ^ 32) (digits_of word)
-
--- the distance that a word spells, written like the cost of a solution, at most 2^64 - 1
-abbrev pub distance_in : List ℕ → Option ℕ
-distance_in word = below (2 ^ 64) (option_and_then magnitude (number_of word))
 
 -- a best-known cost with this distance; none if the distance is missing, or 0, since no gap is a percentage of 0
 abbrev pub best_of : Option ℕ → Option ℕ → Option BestCost
@@ -35,16 +33,16 @@ best_with (Some vehicles) distance = best_of (Some vehicles) distance
 
 -- the best-known cost of one word, `DISTANCE`, or of two, `VEHICLES DISTANCE`; two only for a problem of kind
 -- `LiLim`
-abbrev pub best_among : Kind → List ℕ → Option (List ℕ) → Option BestCost
-best_among kind distance None = best_of None (distance_in distance)
-best_among LiLim vehicles (Some distance) = best_with (vehicles_in vehicles) (distance_in distance)
-best_among Vrp vehicles (Some distance) = None
+abbrev pub best_among : Kind → Scale → List ℕ → Option (List ℕ) → Option BestCost
+best_among kind scale distance None = best_of None (published_distance scale distance)
+best_among LiLim scale vehicles (Some distance) = best_with (vehicles_in vehicles) (published_distance scale distance)
+best_among Vrp scale vehicles (Some distance) = None
 
--- the best-known cost that one or two words spell, for a problem of this kind
-abbrev pub best_in_words : Kind → List (List ℕ) → Option BestCost
-best_in_words kind (first ∷ []) = best_among kind first None
-best_in_words kind (first ∷ second ∷ []) = best_among kind first (Some second)
-best_in_words kind _ = None
+-- the best-known cost that one or two words spell, for a text in this format
+abbrev pub best_in_words : Format → List (List ℕ) → Option BestCost
+best_in_words format (first ∷ []) = best_among (kind_of format) format.scale first None
+best_in_words format (first ∷ second ∷ []) = best_among (kind_of format) format.scale first (Some second)
+best_in_words format _ = None
 
 -- the text has a tab, and so more than one column
 abbrev pub has_tab : List ℕ → Bool
@@ -53,7 +51,7 @@ has_tab text = list_any (λ b. b == 9) text
 -- the best-known cost in a column of a list, with spaces between its words and around them; only a problem of
 -- kind `LiLim` may have vehicles
 abbrev pub best_in : Format → List ℕ → Option BestCost
-best_in format text = if has_tab text then None else best_in_words (kind_of format) (words_of text)
+best_in format text = if has_tab text then None else best_in_words format (words_of text)
 
 -- the comparison of distances if the numbers of vehicles are equal or one is not known, otherwise that of
 -- vehicles

@@ -1,13 +1,14 @@
 //! Best-known costs: their syntax, and the comparison of a plan's cost with one.
 ghost use Rattle.std.specs.Prelude.{◌≡◌, IfOk, option_map, string_bytes};
+ghost use Rattle.instance_read.specs.Formats.{kind_of};
 ghost use Rattle.auditor_cli.specs.BestKnown.{best_among, best_in, best_of, comparison_text, has_tab};
 
 use crate::gaps::{gap_text, vehicles_text};
-use instance_read::Format;
+use instance_read::{Format, published_distance};
 use plan_types::{Cost, Kind, OutOfMemory};
 use std::alloc::Global;
 use std::marker::Model;
-use text_lines::{Words, digits_to_u32, number_to_u64};
+use text_lines::{Words, digits_to_u32};
 
 /// A best-known cost of an instance: its distance, and its vehicles if they are given.
 #[derive(Debug, Drop)]
@@ -32,8 +33,9 @@ impl BestKnown {
     /// Reads a best-known cost: `DISTANCE`, or for a problem of kind `LiLim` also `VEHICLES DISTANCE`, with
     /// spaces between and around the words.
     ///
-    /// The distance is written like the cost of a solution, the vehicles as digits only. Returns `None` for any
-    /// other text, and if the distance is 0.
+    /// The distance is in the unit of the instance's text, and is multiplied by the scale of the format. It is
+    /// written like the cost of a solution, or has at most as many decimals as the scale has zeros. The vehicles
+    /// are digits only. Returns `None` for any other text, and if the distance is 0.
     pub fn read(format: Format, text: &[u8]) -> Option<BestKnown>
         ensures { result ≡ best_in format text.now }
     {
@@ -44,7 +46,7 @@ impl BestKnown {
         let first = words.next()?;
         let second = words.next();
         match words.next() {
-            None => best_among(format.kind(), first, second),
+            None => best_among(format, first, second),
             Some(_) => None,
         }
     }
@@ -70,14 +72,15 @@ fn has_tab(text: &[u8]) -> bool
     text.contains(&b'\t')
 }
 
-fn best_among(kind: Kind, first: &[u8], second: Option<&[u8]>) -> Option<BestKnown>
-    ensures { result ≡ best_among kind first.now (option_map (λ w. w.now) second.entry) }
+fn best_among(format: Format, first: &[u8], second: Option<&[u8]>) -> Option<BestKnown>
+    ensures { result ≡ best_among (kind_of format) format.scale first.now
+        (option_map (λ w. w.now) second.entry) }
 {
-    match (kind, second) {
-        (_, None) => best_of(None, number_to_u64(first)),
+    match (format.kind(), second) {
+        (_, None) => best_of(None, published_distance(format.scale, first)),
         (Kind::LiLim, Some(distance)) => {
             let vehicles = digits_to_u32(first)?;
-            best_of(Some(vehicles), number_to_u64(distance))
+            best_of(Some(vehicles), published_distance(format.scale, distance))
         }
         (Kind::Vrp, Some(_)) => None,
     }

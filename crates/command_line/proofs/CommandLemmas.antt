@@ -94,7 +94,6 @@ use Rattle.clap.specs.declared.error.kind.ErrorKind.TheVariants as kind
 use Rattle.clap.specs.declared.error.kind.ErrorKind.{ErrorKind}
 use Rattle.instance_read.specs.Formats.{format_named}
 use Rattle.instance_read.specs.declared.formats.Format.{Format}
-use Rattle.instance_read.specs.declared.formats.Layout.TheVariants.{LiLim, Solomon, Vrp}
 use Rattle.std.specs.Str.{bytes_eq}
 use Rattle.std.specs.Prelude.{if◌then◌else◌}
 use Rattle.clap.specs.Kinds.{or_else}
@@ -103,6 +102,7 @@ use Rattle.std.specs.Option.{option_map_or}
 use Rattle.std.proofs.lemmas.Slice.Eq.{bytes_eq-Decides}
 use Rattle.clap.proofs.WalkLemmas.{first_value-rows, list_any-map}
 use Rattle.clap.proofs.OnLiterals.{clap_on_literals}
+use Rattle.command_line.proofs.KindNames.{word_accepted}
 use Rattle.command_line.specs.declared.arguments.Invocation.{Invocation}
 use Rattle.command_line.specs.Invocations.{
   ArePositional,
@@ -369,22 +369,11 @@ accepted_by : (a : Bool) → or_else (if a then [] else kind.InvalidValue ∷ []
 accepted_by true = refl
 accepted_by false = refl
 
--- the format that an argument names, by the tests for the names
-abbrev format_by : Bool → Bool → Bool → Option Format
-format_by a b c = option_map (λ layout. record { layout = layout }) (if a then Some LiLim else if b then Some Solomon else if c then Some Vrp else None)
-
--- an argument is one of the names if it names a format
-some_named : (a b c : Bool) → (a || (b || (c || false))) ≡ is_some (format_by a b c)
-some_named true b c = refl
-some_named false true c = refl
-some_named false false true = refl
-some_named false false false = refl
-
 accepts_names : (names : Bor (List (Bor Text))) (k : Text) → IsKindNames names → list_any (λ name. bytes_eq name.now k) names.now ≡ is_some (format_named k)
 accepts_names names k kinds =
     list_any-map (λ t. bytes_eq t k) (λ (n : Bor Text). n.now) names.now
     ∙ ap (list_any (λ t. bytes_eq t k)) kinds
-    ∙ some_named (bytes_eq (codes "lilim") k) (bytes_eq (codes "solomon") k) (bytes_eq (codes "vrp") k)
+    ∙ word_accepted k
 
 -- the fault of an argument that must be a kind
 abbrev fault_of_kind : Text → Kinds

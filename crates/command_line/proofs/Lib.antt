@@ -1,2 +1,3 @@
--- The lemma file, which crates above may cite.
+-- The lemma files, which crates above may cite.
+pub mod KindNames
 pub mod CommandLemmas

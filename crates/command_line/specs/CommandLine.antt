@@ -108,8 +108,13 @@ abbrev pub planner_app : Bor (List (Bor Text)) → Bor (List (Bor Text)) → App
 planner_app names modes =
     with_store_apps names modes (with_search_apps names (with_solution_apps names (versioned_app (codes "planner"))))
 
+-- The kinds of instance: a format, and perhaps its scale after a colon.
 abbrev pub kind_words : List Text
-kind_words = codes "lilim" ∷ codes "solomon" ∷ codes "vrp" ∷ []
+kind_words =
+    codes "lilim" ∷ codes "lilim:1" ∷ codes "lilim:10" ∷ codes "lilim:100" ∷ codes "lilim:1000"
+    ∷ codes "solomon" ∷ codes "solomon:1" ∷ codes "solomon:10" ∷ codes "solomon:100" ∷ codes "solomon:1000"
+    ∷ codes "vrp" ∷ codes "vrp:1" ∷ codes "vrp:10" ∷ codes "vrp:100" ∷ codes "vrp:1000"
+    ∷ []
 
 abbrev pub IsKindNames : Bor (List (Bor Text)) → Type 0
 IsKindNames names = map (λ name. name.now) names.now ≡ kind_words

@@ -17,9 +17,10 @@ use plan_types::OutOfMemory;
 use std::alloc::Global;
 
 const BAD_AUDIT: &str =
-    "the arguments are KIND INSTANCE SOLUTION [routes], and KIND is lilim, solomon or vrp";
+    "the arguments are KIND INSTANCE SOLUTION [routes], and KIND is lilim, solomon or vrp, perhaps with :10, :100 or :1000";
 
-const BAD_AUDITS: &str = "the arguments are KIND LIST [routes], and KIND is lilim, solomon or vrp";
+const BAD_AUDITS: &str =
+    "the arguments are KIND LIST [routes], and KIND is lilim, solomon or vrp, perhaps with :10, :100 or :1000";
 
 const BAD_STEPS: &str =
     "STEPS and DEVIATION are 0 to 1000000000 and SEED is 0 to 18446744073709551615, with digits only";
@@ -30,12 +31,29 @@ const BAD_TASKS: &str =
     "STEPS is 0 to 1000000000 and SEED is 0 to 18446744073709551615, with digits only";
 
 const BAD_DRAWING: &str =
-    "the arguments are STORE [ROUTE] or KIND INSTANCE SOLUTION [ROUTE], KIND is lilim, solomon or vrp, and ROUTE is a number with digits only";
+    "the arguments are STORE [ROUTE] or KIND INSTANCE SOLUTION [ROUTE], KIND is lilim, solomon or vrp, perhaps with :10, :100 or :1000, and ROUTE is a number with digits only";
 
 const BAD_TIMETABLE: &str =
-    "the arguments are STORE [tabs] or KIND INSTANCE SOLUTION [tabs], and KIND is lilim, solomon or vrp";
+    "the arguments are STORE [tabs] or KIND INSTANCE SOLUTION [tabs], and KIND is lilim, solomon or vrp, perhaps with :10, :100 or :1000";
 
-static KINDS: [&str; 3] = ["lilim", "solomon", "vrp"];
+// A format, and perhaps its scale after a colon.
+static KINDS: [&str; 15] = [
+    "lilim",
+    "lilim:1",
+    "lilim:10",
+    "lilim:100",
+    "lilim:1000",
+    "solomon",
+    "solomon:1",
+    "solomon:10",
+    "solomon:100",
+    "solomon:1000",
+    "vrp",
+    "vrp:1",
+    "vrp:10",
+    "vrp:100",
+    "vrp:1000",
+];
 
 static MODES: [&str; 1] = ["strict"];
 
@@ -289,7 +307,7 @@ fn solves_command<'a>(alloc: Global, kinds: &'a [&'a str]) -> CommandResult<'a>
 fn kind_arg<'a>(alloc: Global, kinds: &'a [&'a str]) -> Arg<'a>
     ensures { IsArg (kind_rule kinds.entry) result }
 {
-    required_arg(alloc, "KIND", "The format of the instance").value_parser(kinds)
+    required_arg(alloc, "KIND", "The format of the instance, and perhaps its scale").value_parser(kinds)
 }
 
 // Returns the argument for the mode of `run`.

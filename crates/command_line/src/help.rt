@@ -15,7 +15,10 @@ pub(crate) const STATUSES: &str =
     2   an input or a store is refused, or a store is suspect\n  \
     3   a file or a device failed, is in use or exists already, or an answer could not be written\n  \
     4   out of memory\n  \
-    64  a usage error, or `upgrade` names one file twice";
+    64  a usage error, or `upgrade` names one file twice\n\n\
+    KIND is the format of an instance: lilim, solomon or vrp. After a colon it may have a scale: 1, 10, 100 or 1000. The\n\
+    coordinates, time windows and service times of the instance are multiplied by the scale as they are read. So with\n\
+    solomon:1000 each distance is rounded to a thousandth, and all costs and times are in thousandths.";
 
 pub(crate) const AUDIT_ABOUT: &str =
     "Checks a solution against the rules, and names the first that it breaks";
@@ -98,6 +101,7 @@ pub(crate) const INSTANCE_ABOUT: &str = "Prints the instance that a store holds"
 pub(crate) const INSTANCE_ANSWERS: &str =
     "It prints the instance, with the requests that were added and without those that were withdrawn, so that other programs\n\
     can solve it and audit its solutions (status 0). It has neither the plan nor its pins. Standard error names the KIND.\n\
+    Its numbers are those of the store, times the scale with which the instance was loaded, so its KIND has no scale.\n\
     If that fails, it prints one line:\n  \
     no NoInstance     nothing is loaded into the store (status 2)\n  \
     no NoFormat       the format can't express the requests (status 2)\n  \
@@ -139,7 +143,8 @@ pub(crate) const AUDITS_ABOUT: &str = "Audits a list of solutions";
 
 pub(crate) const AUDITS_ANSWERS: &str =
     "Each line of the list has the path of an instance and the path of a solution, separated by a tab. After a second tab\n\
-    it may have the best-known cost of the instance: [VEHICLES ]DISTANCE, or DISTANCE for a vrp instance.\n\
+    it may have the best-known cost of the instance: [VEHICLES ]DISTANCE, or DISTANCE for a vrp instance. It is in the\n\
+    unit of the instance's file: with KIND lilim:1000 it may have three decimals.\n\
     LIST may be - for standard input. For each line of the list it prints one line:\n  \
     INSTANCE  SOLUTION  ANSWER    separated by tabs; ANSWER is the line of `audit`\n  \
     bad line                      it is not two paths, or the best-known cost is not a cost or has distance 0 (status 2)\n\n\
@@ -209,6 +214,7 @@ pub(crate) const SOLVE_ABOUT: &str = "Solves an instance";
 
 pub(crate) const SOLVE_ANSWERS: &str =
     "It builds a plan, searches for a better one, and prints it as a solution (status 0).\n\
+    For KIND vrp with at most 300 customers and no DEVIATION, 64 steps are one iteration of a hybrid genetic search.\n\
     If the plan leaves requests out, the solution has no cost line (status 1).\n\
     On standard error it prints:\n  \
     at STEPS UNPLANNED VEHICLES DISTANCE    progress at the start and about every 5% of the steps; while it looks for fewer vehicles, every 524,288 steps\n  \

@@ -5,7 +5,7 @@ ghost use Rattle.command_text.specs.Answers.{help_text};
 
 /// The commands, their answers, and the reasons for a refusal, without the line feed at the end.
 pub const HELP: &str = "Each line is one command:\n  \
-    load KIND SEED LEN         starts with a new instance: the LEN bytes after this line; KIND is lilim, solomon or vrp\n  \
+    load KIND SEED LEN         starts with a new instance: the LEN bytes after this line; KIND is lilim, solomon or vrp, perhaps with a scale: lilim:1000\n  \
     adopt LEN                  replaces the plan by a solution that costs no more: the LEN bytes after this line\n  \
     build                      inserts each unplanned request at its best place\n  \
     search N, reach N          makes N search steps, or those that are left to step N\n  \

@@ -30,5 +30,6 @@ pub mod HeadingLemmas
 pub mod SingleLemmas
 pub mod ReadableLemmas
 pub mod SpelledLemmas
+pub mod ScaleLawProofs
 pub mod EvidenceLemmas
 pub mod SolomonEvidenceLemmas

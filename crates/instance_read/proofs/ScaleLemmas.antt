@@ -70,7 +70,7 @@ module _ (scale : Scale) where
   cond_scaled true t o = refl
   cond_scaled false t o = refl
 
-  find_scaled : (test its : Task → Bool) → ((t : Task) → its (scaled t) ≡ test t) → (ts : List Task) → find its (map scaled ts) ≡ option_map scaled (find test ts)
+  pub find_scaled : (test its : Task → Bool) → ((t : Task) → its (scaled t) ≡ test t) → (ts : List Task) → find its (map scaled ts) ≡ option_map scaled (find test ts)
   find_scaled test its same [] = refl
   find_scaled test its same (t ∷ ts) =
       ap (λ b. cond b (Some (scaled t)) (find its (map scaled ts))) (same t) ∙ ap (λ o. cond (test t) (Some (scaled t)) o) (find_scaled test its same ts)

@@ -15,6 +15,8 @@ pub mod VrpKeys
 pub mod VrpLaws
 pub mod Readings
 pub mod Readable
+pub mod Distances
+pub mod ScaleLaws
 pub mod WordEvidence
 pub mod LilimEvidence
 pub mod SolomonEvidence

@@ -1,7 +1,8 @@
-//! Laws: what the keys and the sections of a `.vrp` text are, that each text has exactly one reading, and what
-//! the evidence for a bad number is.
+//! Laws: what the keys and the sections of a `.vrp` text are, that each text has exactly one reading, what a
+//! scale changes, and what the evidence for a bad number is.
 ghost use Rattle.instance_read.specs.EvidenceLaws.{EvidenceShowsTheWord, NumbersShowTheWord, SolomonEvidenceShowsTheWord};
 ghost use Rattle.instance_read.specs.Readable.{TextsHaveAReading, ReadingsAreUnique};
+ghost use Rattle.instance_read.specs.ScaleLaws.{RangesFollowTheScale, ScaledTextsSpellScaledProblems};
 ghost use Rattle.instance_read.specs.VrpKeys.{KeyLinesFollowGrammar};
 ghost use Rattle.instance_read.specs.VrpLaws.{DepotsAreTwoWords, OnlyDimensionAnnounces, EndIsTheEnd, OtherLinesStayOutside, SectionsHaveALineForEachNode};
 
@@ -38,6 +39,14 @@ pub fn eof_is_the_end()
 pub fn every_text_has_one_reading()
     ensures some { TextsHaveAReading }
     ensures one { ReadingsAreUnique }
+{}
+
+/// States that a text spells with a scale the problem that it spells with scale 1, with coordinates, time windows
+/// and service times times the scale, if it has no fault with the scale. A number is out of range exactly if its
+/// product with the scale leaves the limits.
+pub fn scale_multiplies_the_problem()
+    ensures problem { ScaledTextsSpellScaledProblems }
+    ensures ranges { RangesFollowTheScale }
 {}
 
 /// States that the evidence for a line with a bad number is its first such word, with its field and the limits

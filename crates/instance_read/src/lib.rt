@@ -37,16 +37,20 @@
 //! - `vrp`: the reader of `.vrp` texts
 //! - `formats`: the formats, and the words that name them
 //! - `instance`: the reader of texts in any format
+//! - `distances`: published distances, which may have decimals
 //! - `number_evidence`, `lilim_evidence`, `solomon_evidence`, `vrp_evidence`, `evidence`: the details of a fault
 //!   that its line shows
-//! - `laws`: what the lines of a `.vrp` text are, that every text is read, and what evidence shows
+//! - `laws`: what the lines of a `.vrp` text are, that every text is read, what a scale changes, and what evidence
+//!   shows
 //!
 //! Proved: each reader returns exactly the problem that the text spells, or else the first fault by class, line
-//! and kind, unless memory runs out. Every text spells one problem or has one first fault, in any format. The
-//! laws state the format of `.vrp` lines and sections in other words, and that the evidence for a bad number is
+//! and kind, unless memory runs out. Every text spells one problem or has one first fault, in any format. With a
+//! scale it spells the problem of scale 1 with its coordinates, time windows and service times times the scale.
+//! The laws state the format of `.vrp` lines and sections in other words, and that the evidence for a bad number is
 //! the first such word of the line.
 #![tactic(auto)]
 
+mod distances;
 mod entries;
 mod evidence;
 mod faults;
@@ -73,6 +77,7 @@ mod vrp_fields;
 mod vrp_lines;
 mod vrp_problem;
 
+pub use distances::published_distance;
 pub use evidence::{Evidence, Excerpt, Field, SolomonLine, evidence_of};
 pub use faults::{ReadFault, ReadFaultKind};
 pub use field_limits::Limits;
@@ -81,7 +86,8 @@ pub use formats::{Format, Layout};
 pub use instance::read_instance;
 pub use laws::{
     depots_are_two_words, eof_is_the_end, every_text_has_one_reading, evidence_shows_the_word,
-    key_lines_follow_grammar, other_lines_stay_outside, sections_have_a_line_for_each_node,
+    key_lines_follow_grammar, other_lines_stay_outside, scale_multiplies_the_problem,
+    sections_have_a_line_for_each_node,
 };
 pub use lilim::read_lilim;
 pub use scales::Scale;

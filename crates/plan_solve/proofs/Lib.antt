@@ -1,4 +1,5 @@
 -- The lemma files, for this crate only.
 mod AnnealLemmas
 mod AuditLemmas
+mod HybridLemmas
 mod SearchLemmas

@@ -43,12 +43,12 @@ marks_step : (n done k : ℕ) → k < 20
     → remaining_marks n done k ≡ (if nat_lt done (twentieths n (k + 1)) then twentieths n (k + 1) ∷ remaining_marks n (twentieths n (k + 1)) (k + 1) else remaining_marks n done (k + 1))
 marks_step n done k less = ap (λ ks. above done (map (twentieths n) ks)) (range_step k less)
 
-marks_reported : (n done k : ℕ) → k < 20 → done < twentieths n (k + 1) → remaining_marks n done k ≡ twentieths n (k + 1) ∷ remaining_marks n (twentieths n (k + 1)) (k + 1)
+pub marks_reported : (n done k : ℕ) → k < 20 → done < twentieths n (k + 1) → remaining_marks n done k ≡ twentieths n (k + 1) ∷ remaining_marks n (twentieths n (k + 1)) (k + 1)
 marks_reported n done k less above_it =
     marks_step n done k less
     ∙ ap (λ (b : Bool). if b then twentieths n (k + 1) ∷ remaining_marks n (twentieths n (k + 1)) (k + 1) else remaining_marks n done (k + 1)) (lt-ltb done (twentieths n (k + 1)) above_it)
 
-marks_passed : (n done k : ℕ) → k < 20 → twentieths n (k + 1) ≤ done → remaining_marks n done k ≡ remaining_marks n done (k + 1)
+pub marks_passed : (n done k : ℕ) → k < 20 → twentieths n (k + 1) ≤ done → remaining_marks n done k ≡ remaining_marks n done (k + 1)
 marks_passed n done k less within = by (nat_lt done (twentieths n (k + 1))) refl
   where
     by : (b : Bool) → nat_lt done (twentieths n (k + 1)) ≡ b → remaining_marks n done k ≡ remaining_marks n done (k + 1)

@@ -1,5 +1,5 @@
 -- The result of solving an instance, and the progress lines.
-use Rattle.std.specs.Prelude.{◌≡◌, ◌≢◌, ℕ, ◌*◌, ◌/◌, ◌<◌, ◌≤◌, ◌^◌, ◌==◌, max, min, nat_lt, true, if◌then◌else◌, List, [], ◌∷◌, ◌++◌, length, map, sum_by, Option, Some, None, ⊤}
+use Rattle.std.specs.Prelude.{◌≡◌, ◌≢◌, ℕ, ◌*◌, ◌/◌, ◌<◌, ◌≤◌, ◌^◌, ◌==◌, max, min, nat_lt, Bool, true, false, if◌then◌else◌, List, [], ◌∷◌, ◌++◌, length, map, sum_by, codes, decimal, Option, Some, None, ⊤}
 use Rattle.std.specs.List.{flat_map, list_all, range_with_len}
 use Rattle.std.specs.Io.KnownBytes.{Appends}
 use Rattle.plan_types.specs.Instance.{Instance, IsInstance}
@@ -7,10 +7,11 @@ use Rattle.instance_read.specs.Faults.{IsFirstFault}
 use Rattle.instance_read.specs.declared.faults.ReadFault.{ReadFault}
 use Rattle.instance_read.specs.declared.faults.ReadFaultKind.TheVariants as read_fault
 use Rattle.sol_text.specs.Faults.{Spells}
-use Rattle.route_sched.specs.Cost.{used_routes}
+use Rattle.plan_types.specs.declared.plans.Cost.{Cost}
+use Rattle.route_sched.specs.Cost.{cost_of, used_routes}
 use Rattle.sol_text.specs.Written.{routes_text}
 use Rattle.seeded_search.specs.Steps.{unplanned_names}
-use Rattle.command_core.specs.Effects.{built, job_after, loaded, searched, with_deviation}
+use Rattle.command_core.specs.Effects.{adopted, built, job_after, loaded, searched, with_deviation}
 use Rattle.command_types.specs.Job.{JobValue}
 use Rattle.command_types.specs.Commands.{is_searching, steps_of}
 use Rattle.command_core.specs.Runs.{after}
@@ -18,7 +19,7 @@ use Rattle.command_types.specs.declared.commands.Command.{Command}
 use Rattle.command_types.specs.declared.commands.Command.TheVariants.{Build, Deviation, Load}
 use Rattle.command_types.specs.declared.states.State.TheVariants.{Empty, Loaded}
 use Rattle.command_text.specs.Answering.{commands_of}
-use Rattle.command_text.specs.Answers.{at_text, line}
+use Rattle.command_text.specs.Answers.{at_text, cost_text, line}
 use Rattle.command_text.specs.Laws.{state_after_steps}
 use Rattle.instance_read.specs.Readings.{InstanceFault, SpellsInstance}
 use Rattle.instance_read.specs.declared.formats.Format.{Format}
@@ -26,6 +27,7 @@ use Rattle.plan_types.specs.declared.limits.TheConstants.{MAX_REQUESTED_STEPS, M
 use Rattle.command_text.specs.Showing.{print_text, solution_of}
 use Rattle.command_text.specs.declared.steps.StepRequest.TheVariants as goal
 use Rattle.command_text.specs.declared.steps.StepCursor.TheVariants as makes
+use Rattle.hybrid_search.specs.Bred.{IsBred, is_accepted}
 use Rattle.plan_solve.specs.declared.faults.SolveFault.{SolveFault}
 use Rattle.plan_solve.specs.declared.faults.SolveFault.TheVariants as fault
 use Rattle.plan_solve.specs.declared.solver.SolvedPlan.{SolvedPlan}
@@ -92,6 +94,30 @@ lines_after steps parts j (c ∷ cs) =
 abbrev pub anneal_lines : JobValue → ℕ → List ℕ
 anneal_lines j steps = line (at_text j) ++ lines_after steps 0 j (commands_from j steps)
 
+-- ---- Solving by the hybrid genetic search, without a deviation, if it is for the problem
+
+-- Whether the steps are iterations of the hybrid search.
+abbrev pub is_bred : Instance → Option ℕ → Bool
+is_bred p (Some deviation) = false
+is_bred p None = is_accepted p
+
+-- A job that the hybrid search may leave: it has adopted the built plan, or a plan that passes the auditor and costs
+-- at most as much as the built one.
+pub record IsBredJob (begun job : JobValue) : Type 0 where
+  pub routes : List (List ℕ)
+  pub bred : IsBred begun.problem begun.plan routes
+  pub adopts : job ≡ adopted begun routes
+
+-- The progress line for a plan of this cost after this number of iterations, each of which counts as 64 steps.
+abbrev pub bred_line : Cost → ℕ → List ℕ
+bred_line cost iterations = line (codes "at " ++ decimal (iterations * 64) ++ codes " " ++ cost_text cost)
+
+-- The lines are one progress line for each of these numbers of iterations, for a job that the hybrid search may
+-- leave then.
+abbrev pub AreBredLines : JobValue → List ℕ → List ℕ → Type 0
+AreBredLines begun [] lines = lines ≡ []
+AreBredLines begun (n ∷ ns) lines = (job : JobValue) × (rest : List ℕ) × IsBredJob begun job × (lines ≡ bred_line (cost_of job.problem job.plan) n ++ rest) × AreBredLines begun ns rest
+
 -- ---- Solving by the search or by annealing
 
 -- The deviation of the search, limited to `MAX_DEVIATION`; `None` if the steps anneal.
@@ -104,7 +130,8 @@ abbrev pub solved_from : JobValue → ℕ → Option ℕ → JobValue
 solved_from j steps (Some deviation) = searched_with deviation j steps
 solved_from j steps None = annealed j steps
 
--- The job that `solve` returns: the problem is loaded with the seed, its plan built and improved by these steps.
+-- The job that `solve` returns, except by the hybrid search: the problem is loaded with the seed, its plan built
+-- and improved by these steps.
 abbrev pub solved : Instance → ℕ → ℕ → Option ℕ → JobValue
 solved p seed steps deviation = solved_from (begun p seed) steps (deviation_of deviation)
 
@@ -113,26 +140,33 @@ abbrev pub progress_lines : JobValue → ℕ → Option ℕ → List ℕ
 progress_lines j steps (Some deviation) = search_lines deviation j steps
 progress_lines j steps None = anneal_lines j steps
 
--- The progress lines of `solve` for this problem.
-abbrev pub progress : Instance → ℕ → ℕ → Option ℕ → List ℕ
-progress p seed steps deviation = progress_lines (begun p seed) steps (deviation_of deviation)
-
 -- Law: with a deviation, the result is the one that the operations of a store make, however the steps are split
 -- into searches.
 abbrev pub SolvingEqualsCommands : Type 0
 SolvingEqualsCommands = (p : Instance) (seed deviation : ℕ) (cs : List Command) → deviation ≤ MAX_DEVIATION → list_all is_searching cs ≡ true
     → after Empty (Load p seed ∷ Build ∷ Deviation deviation ∷ cs) ≡ Loaded (solved p seed (sum_by steps_of cs) (Some deviation))
 
--- Law: without a deviation, the result is the one that the operations of the command `anneal 0 STEPS` make.
+-- Law: by annealing, the result is the one that the operations of the command `anneal 0 STEPS` make.
 abbrev pub AnnealingEqualsCommands : Type 0
 AnnealingEqualsCommands = (p : Instance) (seed steps : ℕ)
     → after Empty (Load p seed ∷ Build ∷ commands_of (makes.Stages 0 steps) (Loaded (begun p seed))) ≡ Loaded (solved p seed steps None)
 
--- Law: without a deviation, the command `anneal 0 STEPS` makes the same job as `solve`, if a command may have
--- that many steps.
+-- Law: the command `anneal 0 STEPS` makes the same job as annealing, if a command may have that many steps.
 abbrev pub AnnealingEqualsOneCommand : Type 0
 AnnealingEqualsOneCommand = (p : Instance) (seed steps : ℕ) → steps ≤ MAX_REQUESTED_STEPS
     → state_after_steps (goal.Stages 0 steps) (after Empty (Load p seed ∷ Build ∷ [])) [] ≡ Loaded (solved p seed steps None)
+
+-- ---- What the steps leave
+
+-- The job after the steps, and the progress lines, by the hybrid search or not.
+abbrev pub EndsBy : Bool → JobValue → ℕ → Option ℕ → JobValue → List ℕ → Type 0
+EndsBy true begun steps deviation job lines = IsBredJob begun job × AreBredLines begun (marks (steps / 64)) lines
+EndsBy false begun steps deviation job lines =
+    (job ≡ solved_from begun steps (deviation_of deviation)) × (lines ≡ progress_lines begun steps (deviation_of deviation))
+
+-- The job after the steps, and the progress lines.
+abbrev pub Ends : JobValue → ℕ → Option ℕ → JobValue → List ℕ → Type 0
+Ends begun steps deviation job lines = EndsBy (is_bred begun.problem deviation) begun steps deviation job lines
 
 -- ---- The answer
 
@@ -148,15 +182,22 @@ pub record PrintsPlan (j : JobValue) (found : SolvedPlan) : Type 0 where
   pub unplanned : found.unplanned.items ≡ unplanned_names j.problem j.plan
   pub spells : found.unplanned.items ≡ [] → Spells found.text.items (solution_of j)
 
--- The text is an instance, the result is the plan for it, and the progress lines are written unless one could not
+-- `found` is the plan that the steps leave for this problem, and the progress lines are written unless one could not
 -- be.
+pub record IsFound (before after_it : Option (List ℕ)) (p : Instance) (seed steps : ℕ) (deviation : Option ℕ) (found : SolvedPlan) : Type 0 where
+  pub job : JobValue
+  pub lines : List ℕ
+  pub ends : Ends (begun p seed) steps deviation job lines
+  pub plan : PrintsPlan job found
+  pub reported : found.is_written ≡ true → Appends before after_it lines
+
+-- The text is an instance, and the result is the plan for it.
 pub record IsSolved (format : Format) (text : List ℕ) (seed steps : ℕ) (deviation : Option ℕ) (before after_it : Option (List ℕ)) (found : SolvedPlan) : Type 0 where
   pub problem : Instance
   pub spelled : SpellsInstance format text problem
   pub kept : IsInstance problem
   pub few : steps < 2 ^ 32
-  pub plan : PrintsPlan (solved problem seed steps deviation) found
-  pub reported : found.is_written ≡ true → Appends before after_it (progress problem seed steps deviation)
+  pub is_found : IsFound before after_it problem seed steps deviation found
 
 -- The first fault of the instance, which is not that memory ran out.
 abbrev pub IsFirst : Format → List ℕ → ReadFault → Type 0

@@ -14,8 +14,8 @@ pub fn solving_equals_commands()
     searches_add_up();
 }
 
-/// Proves that the result without a deviation is the one that the operations of `anneal 0 STEPS` make after
-/// `load` and `build`, and that the command `anneal 0 STEPS` itself makes this job.
+/// Proves that the result of annealing is the one that the operations of `anneal 0 STEPS` make after `load` and
+/// `build`, and that the command `anneal 0 STEPS` itself makes this job.
 pub fn annealing_equals_commands()
     ensures commands { AnnealingEqualsCommands }
     ensures line { AnnealingEqualsOneCommand }

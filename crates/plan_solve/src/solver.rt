@@ -2,16 +2,18 @@
 ghost use Rattle.std.specs.Prelude.{◌≡◌, IfOk, MatchResult, OnOk};
 ghost use Rattle.command_core.specs.Effects.{effect};
 ghost use Rattle.command_types.specs.declared.commands.Command.TheVariants.{Build, Load};
-ghost use Rattle.plan_solve.specs.Solved.{Fails, IsSolved, begun, deviation_of, progress_lines, solved_from};
-ghost use Rattle.plan_solve.specs.ProgressState.{HasEnded, IsFound, refused};
+ghost use Rattle.plan_solve.specs.Solved.{Fails, IsFound, IsSolved, begun};
+ghost use Rattle.plan_solve.specs.ProgressState.{HasWalked, refused};
 
 use crate::annealing::anneal_with_progress;
 use crate::execute::{execute, final_job};
 use crate::faults::SolveFault;
+use crate::hybrid::breed_with_progress;
 use crate::printing::answer;
 use crate::progress_lines::EndedJob;
 use crate::search::search_with_progress;
 use command_core::{Command, Job, Planner, State};
+use hybrid_search::is_accepted;
 use instance_read::{Format, ReadFault, ReadFaultKind, read_instance};
 use plan_types::limits::MAX_DEVIATION;
 use plan_types::{OutOfMemory, Problem};
@@ -35,8 +37,9 @@ pub struct SolvedPlan {
 /// Reads an instance, builds a plan with this seed, and improves it by this many steps.
 ///
 /// With a deviation, in the unit of distance and at most `MAX_DEVIATION`, the search makes the steps, like the
-/// `run` commands `load`, `build`, `deviation` and `search`. Without one the steps are those of the command
-/// `anneal 0 STEPS` after `load` and `build`.
+/// `run` commands `load`, `build`, `deviation` and `search`. Without one the hybrid genetic search makes an
+/// iteration for each 64 steps, if it is for the problem (`is_accepted`). Otherwise the steps are those of the
+/// command `anneal 0 STEPS` after `load` and `build`.
 ///
 /// A line `at STEPS UNPLANNED VEHICLES DISTANCE` is written to `progress` and flushed, before the first step
 /// and after about each twentieth of them. After a line that can't be written, no more are written.
@@ -115,7 +118,7 @@ fn refused(fault: ReadFault) -> SolveFault
     }
 }
 
-// Makes the steps, by the search with a deviation or by annealing without one.
+// Makes the steps: by the search with a deviation, and by the hybrid genetic search or annealing without one.
 fn walk<W: Write>(
     alloc: Global,
     begun: Job,
@@ -123,22 +126,15 @@ fn walk<W: Write>(
     deviation: Option<u32>,
     progress: &mut W,
 ) -> Result<EndedJob, OutOfMemory>
-    ensures { let d = deviation_of deviation in IfOk result
-        (HasEnded (W.contents progress.old) (W.contents progress.new)
-        (solved_from begun steps d) (progress_lines begun steps d)) }
-{
-    match deviation_of(deviation) {
-        Some(deviation) => search_with_progress(alloc, begun, deviation, steps, progress),
-        None => anneal_with_progress(alloc, begun, steps, progress),
-    }
-}
-
-// Returns the deviation of the search, limited to `MAX_DEVIATION`, or `None` if the steps anneal.
-fn deviation_of(deviation: Option<u32>) -> Option<u32>
-    ensures { result ≡ deviation_of deviation }
+    ensures { IfOk result (HasWalked (W.contents progress.old) (W.contents progress.new)
+        begun steps deviation) }
 {
     match deviation {
-        Some(deviation) => Some(deviation.min(MAX_DEVIATION)),
-        None => None,
+        Some(deviation) => {
+            let deviation = deviation.min(MAX_DEVIATION);
+            search_with_progress(alloc, begun, deviation, steps, progress)
+        }
+        None if is_accepted(&begun.problem) => breed_with_progress(alloc, begun, steps, progress),
+        None => anneal_with_progress(alloc, begun, steps, progress),
     }
 }

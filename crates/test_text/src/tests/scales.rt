@@ -5,7 +5,7 @@ use crate::tests::instances::{Counts, Spot, has_counts};
 use instance_read::ReadFaultKind::{
     BadNumber, EmptyWindow, NodeRepeated, PairMismatch, Range, TaskOrder, TooManyStops,
 };
-use instance_read::{Format, Layout, ReadFaultKind, Scale, read_instance};
+use instance_read::{Format, Layout, ReadFaultKind, Scale, published_distance, read_instance};
 use std::alloc::{AllocError, Global};
 use std::test::Fail;
 use test_examples::THREE_CUSTOMERS;
@@ -352,5 +352,41 @@ fn names_formats(rt: HostRuntime) {
             scale: Scale::Thousand,
         };
         assert!(rt; format.word() == word);
+    }
+}
+
+/// Words, and the distances that they spell with a scale.
+const DISTANCES: [(Scale, &[u8], Option<u64>); 25] = [
+    (Scale::One, b"828", Some(828)),
+    (Scale::One, b"828.00", Some(828)),
+    (Scale::One, b"828.94", None),
+    (Scale::One, b"18446744073709551615", Some(u64::MAX)),
+    (Scale::Ten, b"828", Some(8_280)),
+    (Scale::Ten, b"828.9", Some(8_289)),
+    (Scale::Ten, b"828.94", None),
+    (Scale::Hundred, b"828.9", Some(82_890)),
+    (Scale::Hundred, b"828.94", Some(82_894)),
+    (Scale::Hundred, b"828.941", None),
+    (Scale::Thousand, b"829", Some(829_000)),
+    (Scale::Thousand, b"829.", Some(829_000)),
+    (Scale::Thousand, b"828.9", Some(828_900)),
+    (Scale::Thousand, b"828.94", Some(828_940)),
+    (Scale::Thousand, b"+828.941", Some(828_941)),
+    (Scale::Thousand, b"828.9412", None),
+    (Scale::Thousand, b"828.9x", None),
+    (Scale::Thousand, b"828.-9", None),
+    (Scale::Thousand, b"-828.9", None),
+    (Scale::Thousand, b"-0.9", None),
+    (Scale::Thousand, b".9", None),
+    (Scale::Thousand, b"8.2.8", None),
+    (Scale::Thousand, b"18446744073709551.615", Some(u64::MAX)),
+    (Scale::Thousand, b"18446744073709551.616", None),
+    (Scale::Thousand, b"18446744073709552", None),
+];
+
+#[test]
+fn reads_published_distances(rt: HostRuntime) {
+    for (scale, word, distance) in &DISTANCES {
+        assert!(rt; published_distance(*scale, word) == *distance);
     }
 }
