@@ -1,8 +1,8 @@
 #!/bin/sh
 # Published results of Li-Lim instances, with the commands as written in the documents: an instance that is read
-# with the scale 1000, and a solution made from a text with a heading and lines `Route 1 : 5 3 7`. A plan that is
-# late by two thousandths breaks rule 7 there, and passes with whole numbers. One that is early by as much passes.
-# The instance is also solved with this scale, with fewer steps, and the unrounded distance is computed.
+# with the scale 1000, and a solution with a heading and lines `Route 1 : 5 3 7`, read as it is. A plan that is late
+# by two thousandths breaks rule 7 there, and passes with whole numbers. One that is early by as much passes. The
+# instance is also solved with this scale, with fewer steps, and the unrounded distance is computed.
 set -u
 
 top=$(CDPATH='' cd -- "$(dirname -- "$0")/.." && pwd -P) || exit 1
@@ -18,8 +18,7 @@ trap 'exit 143' TERM
 failures=0
 cd -- "$folder" || exit 1
 ln -s -- "$program" planner
-# shellcheck disable=SC2016 # the block's text as it is shown
-python3 -B "$top/tests/planner.py" 'for it in $(cut' >commands || exit 1
+python3 -B "$top/tests/planner.py" 'while read -r it cost' >commands || exit 1
 python3 -B "$top/tests/planner.py" './planner solve lilim:1000' >shown || exit 1
 sed 's/ 100000 / 200 /' shown >solving
 printf 'lc101\t10 828.94\n' >best.txt

@@ -56,6 +56,10 @@ expect 0 'pass 0 10 829' '' audit lilim lc101.txt "$folder/fraction.sol" routes
 expect 0 'pass 0 1 20' "planner: $folder/timed.sol: line 4 comes after the cost line and is not read" audit lilim one-pair.txt "$folder/timed.sol" routes
 sed 's/^Route #5:.*//' "$folder/routes.sol" >"$folder/fewer.sol"
 expect 1 'broken 3 route 0 place 0 stop 42' '' audit lilim lc101.txt "$folder/fewer.sol" routes
+{ printf 'Instance name : lc101\nSolution\n'; cat "$folder/routes.sol"; } >"$folder/headed.sol"
+expect 0 'pass 0 10 829' '' audit lilim lc101.txt "$folder/headed.sol" routes
+expect 0 'pass 0 10 829' '' explain lilim lc101.txt "$folder/headed.sol" routes
+expect 2 'solution BadLine 1' '' audit lilim lc101.txt "$folder/headed.sol"
 sed 's/^Route #2/Rouet #2/' "$folder/routes.sol" >"$folder/slip.sol"
 expect 2 'solution BadLine 2' '' explain lilim lc101.txt "$folder/slip.sol" routes
 # For a list, standard error reports text after a cost line, and for a bad line its number and the reason.

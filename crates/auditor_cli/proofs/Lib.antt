@@ -4,7 +4,6 @@ pub mod FileLemmas
 pub mod ListLemmas
 pub mod NoteLemmas
 pub mod PartialLemmas
-pub mod RoutesLemmas
 pub mod SpelledLemmas
 pub mod ReadListLemmas
 pub mod UsageLemmas

@@ -10,9 +10,7 @@ use Rattle.plan_audit.specs.Verdict.{IsVerdict, KeepsRules, planned}
 use Rattle.plan_audit.specs.declared.rules.Verdict.{Verdict}
 use Rattle.plan_audit.specs.declared.rules.Verdict.TheVariants.{Broken, Pass}
 use Rattle.instance_read.specs.declared.formats.Format.{Format}
-use Rattle.auditor_cli.specs.Partial.{ArePartial, IsPartialOf, keeps_stops}
-use Rattle.auditor_cli.specs.declared.audit.Examination.{Examination}
-use Rattle.auditor_cli.specs.declared.audit.Examination.TheVariants.{BadInstance, BadSolution, Judged}
+use Rattle.auditor_cli.specs.Partial.{ArePartial, keeps_stops}
 use Rattle.auditor_cli.specs.declared.partial.PartialPlan.{PartialPlan}
 
 pub stops_kept : (p : Instance) (routes : List (List ℕ)) (v : Verdict) → IsVerdict p (planned routes []) v → keeps_stops v ≡ true → KeepsRules 1 8 p (planned routes [])
@@ -23,12 +21,9 @@ stops_kept p routes (Broken rule q j t) is kept m r i n from to b =
     elim (is.2.least m r i n from (omega (arith, to)) b) [ inl less ↦ omega (arith, number, above, to, less) | inr same ↦ (let e = same.0 in omega (arith, number, above, to, e)) ]
 
 -- The routes of a partial plan have stops of current requests, each once.
-pub partial_live : (format : Format) (instance solution : List ℕ) (partial : PartialPlan) → ArePartial format instance solution partial → All (AreDistinctStops partial.problem) partial.plan.routes
-partial_live format instance solution partial are = by are.routes are.is_partial
-  where
-    by : (routes : Examination) → IsPartialOf routes partial → All (AreDistinctStops partial.problem) partial.plan.routes
-    by (BadInstance fault) is = absurd is
-    by (BadSolution fault) is = absurd is
-    by (Judged problem printed verdict) is =
-        let plan : IsPlan problem printed.routes = plan_from problem (planned printed.routes []) is.2.is_partial.stops in
-        subst (λ p. All (AreDistinctStops p) partial.plan.routes) (sym is.0) (subst (All (AreDistinctStops problem)) (sym is.1) (((plans_are_disjoint_routes problem printed.routes).0 plan).0))
+pub partial_distinct : (format : Format) (instance solution : List ℕ) (partial : PartialPlan) → ArePartial format instance solution partial → All (AreDistinctStops partial.problem) partial.plan.routes
+partial_distinct format instance solution partial are =
+    let problem = partial.problem in
+    let routes = partial.plan.routes in
+    let plan : IsPlan problem routes = plan_from problem (planned routes []) are.is_partial.is_partial.stops in
+    ((plans_are_disjoint_routes problem routes).0 plan).0

@@ -16,7 +16,6 @@ use Rattle.plan_audit.specs.declared.rules.Verdict.TheVariants.{Broken, Pass}
 use Rattle.instance_read.specs.Readings.{InstanceFault, SpellsInstance}
 use Rattle.instance_read.specs.declared.formats.Format.{Format}
 use Rattle.auditor_cli.specs.AnswerText.{broken_text, fault_text, pass_text}
-use Rattle.auditor_cli.specs.RoutesAlone.{routes_text}
 use Rattle.auditor_cli.specs.declared.answer.AuditAnswer.{AuditAnswer}
 
 -- The answer for a text that is refused: `TEXT NAME LINE`, with status 2.
@@ -90,34 +89,42 @@ SaysSound format instance solution answer = (answer.status ≡ 0) ↔ AreSound f
 
 -- ---- The routes only
 
--- Both texts can be parsed, whatever cost line the solution has, and the answer is that of the verdict on the
--- routes.
+-- The instance spells a problem, the solution's routes have a fault, and the answer names their first one.
+pub record RefusesRoutes (format : Format) (instance solution : List ℕ) (answer : AuditAnswer) : Type 0 where
+  pub problem : Instance
+  pub spelled : SpellsInstance format instance problem
+  pub fault : SolFault
+  pub first : sol_faults.IsFirstRoutesFault solution fault
+  pub reported : answer ≡ refused_answer (codes "solution") (solution_names.kind_name fault.kind) fault.line
+
+-- The instance spells a problem and the solution spells routes, and the answer is that of the verdict on these
+-- two.
 pub record JudgesRoutes (format : Format) (instance solution : List ℕ) (answer : AuditAnswer) : Type 0 where
   pub problem : Instance
   pub problem_spelled : SpellsInstance format instance problem
   pub problem_kept : IsInstance problem
-  pub plan : Solution
-  pub plan_spelled : sol_faults.Spells (routes_text solution) plan
+  pub routes : List (List ℕ)
+  pub routes_spelled : sol_faults.SpellsRoutes solution routes
   pub verdict : Verdict
-  pub is_verdict : IsRoutesVerdict problem plan.routes verdict
+  pub is_verdict : IsRoutesVerdict problem routes verdict
   pub reported : answer ≡ verdict_answer verdict
 
 -- The answer to the audit of only the routes of a solution, which needs no cost line.
 abbrev pub IsRoutesAnswer : Format → List ℕ → List ℕ → AuditAnswer → Type 0
 IsRoutesAnswer format instance solution answer =
     RefusesInstance format instance answer
-    ⊎ (RefusesSolution format instance (routes_text solution) answer ⊎ JudgesRoutes format instance solution answer)
+    ⊎ (RefusesRoutes format instance solution answer ⊎ JudgesRoutes format instance solution answer)
 
 -- Both texts can be parsed, and the routes are sound, serve each request, and use no more vehicles than there
 -- are.
 pub record HasSoundRoutes (format : Format) (instance solution : List ℕ) : Type 0 where
   pub problem : Instance
   pub problem_spelled : SpellsInstance format instance problem
-  pub plan : Solution
-  pub plan_spelled : sol_faults.Spells (routes_text solution) plan
-  pub sound : IsSoundPlan problem plan.routes
-  pub complete : AreAllPlanned problem plan.routes
-  pub fleet : used_count plan.routes ≤ problem.fleet
+  pub routes : List (List ℕ)
+  pub routes_spelled : sol_faults.SpellsRoutes solution routes
+  pub sound : IsSoundPlan problem routes
+  pub complete : AreAllPlanned problem routes
+  pub fleet : used_count routes ≤ problem.fleet
 
 -- The status is 0 exactly if both texts can be parsed and the routes are sound in the sense of `HasSoundRoutes`.
 abbrev pub SaysRoutesSound : Format → List ℕ → List ℕ → AuditAnswer → Type 0

@@ -9,7 +9,7 @@ use Rattle.auditor_cli.specs.AnswerText.{pass_text}
 use Rattle.auditor_cli.specs.Examination.{IsExaminedBy, answer_of}
 use Rattle.auditor_cli.specs.declared.answer.AuditAnswer.{AuditAnswer}
 use Rattle.auditor_cli.specs.declared.audit.Examination.{Examination}
-use Rattle.auditor_cli.specs.declared.audit.Examination.TheVariants.{BadInstance, BadSolution, Judged}
+use Rattle.auditor_cli.specs.declared.audit.Examination.TheVariants.{BadCost, BadInstance, BadSolution, Judged}
 
 -- The answer for a verdict. After a pass, it compares the cost with the best-known one.
 abbrev pub compared_verdict : BestCost → Verdict → AuditAnswer
@@ -20,6 +20,7 @@ compared_verdict best (Broken rule route place stop) = verdict_answer (Broken ru
 abbrev pub compared_answer : BestCost → Examination → AuditAnswer
 compared_answer best (BadInstance fault) = answer_of (BadInstance fault)
 compared_answer best (BadSolution fault) = answer_of (BadSolution fault)
+compared_answer best (BadCost problem routes fault) = answer_of (BadCost problem routes fault)
 compared_answer best (Judged problem plan verdict) = compared_verdict best verdict
 
 -- The answer for an instance in this format and a solution or only its routes. After a pass, it compares the

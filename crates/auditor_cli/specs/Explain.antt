@@ -3,6 +3,9 @@ use Rattle.std.specs.Prelude.{◌≡◌, ◌⊎◌, ℕ, Bool, true, List, [], �
 use Rattle.std.specs.Io.KnownBytes.{Appends}
 use Rattle.std.specs.declared.alloc.AllocError.{AllocError}
 use Rattle.std.specs.declared.io.ErrorKind.{ErrorKind}
+use Rattle.plan_types.specs.Instance.{Instance}
+use Rattle.plan_audit.specs.Verdict.{IsRoutesVerdict}
+use Rattle.plan_audit.specs.declared.rules.Verdict.{Verdict}
 use Rattle.plan_explain.specs.VerdictTexts.{distance_text, verdict_text}
 use Rattle.plan_explain.specs.Refusals.{instance_fault_text, solution_fault_text}
 use Rattle.instance_read.specs.declared.formats.Format.{Format}
@@ -14,33 +17,21 @@ use Rattle.sol_text.specs.declared.faults.SolFault.{SolFault}
 use Rattle.text_lines.specs.Lines.{with_line_feed}
 use Rattle.auditor_cli.specs.Messages.{PrintsReadFailure}
 use Rattle.auditor_cli.specs.declared.audit.Examination.{Examination}
-use Rattle.auditor_cli.specs.declared.audit.Examination.TheVariants.{BadInstance, BadSolution, Judged}
+use Rattle.auditor_cli.specs.declared.audit.Examination.TheVariants.{BadCost, BadInstance, BadSolution, Judged}
 use Rattle.auditor_cli.specs.declared.explain.Explanation.{Explanation}
 
--- The line with the distance of the routes, or nothing if they could not be parsed or their distance is not
--- known.
-abbrev pub distance_of_routes : Examination → List ℕ
-distance_of_routes (Judged problem plan verdict) = distance_text problem plan.routes verdict
-distance_of_routes (BadSolution fault) = []
-distance_of_routes (BadInstance fault) = []
-
--- The text is the line with the distance of a solution's routes, whatever its cost line is.
-pub record GivesRoutesDistance (format : Format) (instance solution text : List ℕ) : Type 0 where
-  pub routes : Examination
-  pub are_routes : IsExaminedBy true format instance solution routes
-  pub driven : text ≡ distance_of_routes routes
-
--- The text explains this fault of a solution, and then has the distance of its routes.
-pub record RestsOnFault (format : Format) (instance solution : List ℕ) (fault : SolFault) (text : List ℕ) : Type 0 where
-  pub routes : Examination
-  pub are_routes : IsExaminedBy true format instance solution routes
-  pub reported : text ≡ solution_fault_text solution fault ++ distance_of_routes routes
+-- The text explains this fault of a solution's cost, and then has the distance of its routes if that is known.
+pub record RestsOnCost (solution : List ℕ) (problem : Instance) (routes : List (List ℕ)) (fault : SolFault) (text : List ℕ) : Type 0 where
+  pub verdict : Verdict
+  pub is_verdict : IsRoutesVerdict problem routes verdict
+  pub reported : text ≡ solution_fault_text solution fault ++ distance_text problem routes verdict
 
 -- The text explains the answer for the examined texts: by a fault and its line, or by the values that the
 -- verdict is based on.
 abbrev pub RestsOn : Format → List ℕ → List ℕ → Examination → List ℕ → Type 0
 RestsOn format instance solution (BadInstance fault) text = text ≡ instance_fault_text format instance fault
-RestsOn format instance solution (BadSolution fault) text = RestsOnFault format instance solution fault text
+RestsOn format instance solution (BadSolution fault) text = text ≡ solution_fault_text solution fault
+RestsOn format instance solution (BadCost problem routes fault) text = RestsOnCost solution problem routes fault text
 RestsOn format instance solution (Judged problem plan verdict) text = text ≡ verdict_text problem plan verdict
 
 -- The answer to the audit of a solution, or only of its routes, with its explanation.

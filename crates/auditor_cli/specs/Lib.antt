@@ -14,7 +14,6 @@ pub mod Gaps
 pub mod Audits
 pub mod Partial
 pub mod Reads
-pub mod RoutesAlone
 pub mod Messages
 pub use Rattle.command_line.specs.Invocations
 -- Modules that only private functions use.

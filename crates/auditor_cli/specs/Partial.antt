@@ -12,10 +12,10 @@ use Rattle.plan_audit.specs.declared.rules.Verdict.TheVariants.{Broken, Pass}
 use Rattle.instance_read.specs.declared.formats.Format.{Format}
 use Rattle.auditor_cli.specs.Answer.{IsAnswer}
 use Rattle.auditor_cli.specs.AnswerText.{partial_text}
-use Rattle.auditor_cli.specs.Examination.{AreRoutesExamined, IsBadSolution, IsExamined}
+use Rattle.auditor_cli.specs.Examination.{IsBadCost, IsExamined}
 use Rattle.auditor_cli.specs.declared.answer.AuditAnswer.{AuditAnswer}
 use Rattle.auditor_cli.specs.declared.audit.Examination.{Examination}
-use Rattle.auditor_cli.specs.declared.audit.Examination.TheVariants.{BadSolution, Judged}
+use Rattle.auditor_cli.specs.declared.audit.Examination.TheVariants.{BadCost}
 use Rattle.auditor_cli.specs.declared.partial.PartialPlan.{PartialPlan}
 use Rattle.auditor_cli.specs.declared.partial.PlanExamination.{PlanExamination}
 use Rattle.auditor_cli.specs.declared.partial.PlanExamination.TheVariants.{Partial, Whole}
@@ -37,41 +37,29 @@ pub record IsCostOfPartial (p : Instance) (routes : List (List ℕ)) (cost : Cos
   pub is_partial : IsPartialPlan p routes
   pub costs : cost ≡ cost_of p routes
 
--- The examined routes form this partial plan.
-abbrev pub IsPartialOf : Examination → PartialPlan → Type 0
-IsPartialOf (Judged problem printed verdict) partial = (partial.problem ≡ problem) × (partial.plan.routes ≡ printed.routes) × IsCostOfPartial problem printed.routes partial.cost
-IsPartialOf _ partial = ⊥
-
--- The examined routes form no partial plan.
-abbrev pub IsNotPartial : Examination → Type 0
-IsNotPartial (Judged problem printed verdict) = IsPartialPlan problem printed.routes → ⊥
-IsNotPartial _ = Unit {0}
-
 -- The instance spells a problem, the solution only lacks its cost line, and its routes form this partial plan of
 -- the problem.
 pub record ArePartial (format : Format) (instance solution : List ℕ) (partial : PartialPlan) : Type 0 where
   pub fault : SolFault
-  pub refused : IsBadSolution format instance solution fault
-  pub lacks : fault.kind ≡ NoCost
-  pub routes : Examination
-  pub are_routes : AreRoutesExamined format instance solution routes
-  pub is_partial : IsPartialOf routes partial
-
--- The routes of the solution form no partial plan of the problem.
-pub record AreNotPartial (format : Format) (instance solution : List ℕ) : Type 0 where
-  pub routes : Examination
-  pub are_routes : AreRoutesExamined format instance solution routes
-  pub is_not_partial : IsNotPartial routes
+  pub examined : IsBadCost format instance solution partial.problem partial.plan.routes fault
+  pub lacks_line : fault.kind ≡ NoCost
+  pub is_partial : IsCostOfPartial partial.problem partial.plan.routes partial.cost
 
 -- If the only fault of the solution is that it lacks its cost line, its routes form no partial plan.
-abbrev pub HasNoPartialPlan : Format → List ℕ → List ℕ → Examination → Type 0
-HasNoPartialPlan format instance solution (BadSolution fault) = fault.kind ≡ NoCost → AreNotPartial format instance solution
-HasNoPartialPlan format instance solution _ = Unit {0}
+abbrev pub HasNoPartialPlan : Examination → Type 0
+HasNoPartialPlan (BadCost problem routes fault) = fault.kind ≡ NoCost → IsPartialPlan problem routes → ⊥
+HasNoPartialPlan _ = Unit {0}
+
+-- Routes whose cost has this fault form this partial plan, or are refused for their cost and form none.
+abbrev pub IsPartialOrRefused : Instance → List (List ℕ) → SolFault → PlanExamination → Type 0
+IsPartialOrRefused problem routes fault (Partial partial) =
+    (partial.problem ≡ problem) × (partial.plan.routes ≡ routes) × (fault.kind ≡ NoCost) × IsCostOfPartial problem routes partial.cost
+IsPartialOrRefused problem routes fault (Whole examined) = (examined ≡ BadCost problem routes fault) × HasNoPartialPlan (BadCost problem routes fault)
 
 -- The result of examining an instance and a solution that may be a partial plan.
 abbrev pub IsPlanExamined : Format → List ℕ → List ℕ → PlanExamination → Type 0
 IsPlanExamined format instance solution (Partial partial) = ArePartial format instance solution partial
-IsPlanExamined format instance solution (Whole examined) = IsExamined format instance solution examined × HasNoPartialPlan format instance solution examined
+IsPlanExamined format instance solution (Whole examined) = IsExamined format instance solution examined × HasNoPartialPlan examined
 
 -- The answer for a partial plan with this cost. It has status 1, like that for a broken rule.
 abbrev pub partial_answer : Cost → AuditAnswer

@@ -2,18 +2,17 @@
 ghost use Rattle.std.specs.Prelude.{◌≡◌, ◌≢◌, ◌≤◌, IfOk};
 ghost use Rattle.instance_read.specs.Formats.{format_of};
 ghost use Rattle.auditor_cli.specs.Answer.{IsAnswer, IsAnswerBy, IsRoutesAnswer, JudgesSpelled, SaysRoutesSound, SaysSound, refused_answer, verdict_answer};
-ghost use Rattle.auditor_cli.specs.Examination.{AreExaminedForRoutes, AreRoutesExamined, IsExamined, IsExaminedBy, answer_of};
+ghost use Rattle.auditor_cli.specs.Examination.{AreRoutesExamined, AreTheseRoutesJudged, IsExamined, IsExaminedBy, IsPrintedJudged, IsSolutionJudged, answer_of};
 ghost use Rattle.auditor_cli.specs.declared.audit.Examination.TheVariants.{BadInstance, BadSolution};
 
 use crate::answer::{AuditAnswer, broken_line, fault_line, pass_line};
-use crate::routes_alone::routes_text;
 use crate::status::{BROKEN, DONE, REFUSED};
 use instance_read::{Format, ReadFault, ReadFaultKind, read_instance};
 use plan_audit::{
     Verdict, audit_routes, audit_solution, routes_are_judged_by_true_cost, solutions_pass_iff_sound,
 };
-use plan_types::{Kind, OutOfMemory, Problem};
-use sol_text::{SolFault, SolFaultKind, Solution, read_sol};
+use plan_types::{Kind, OutOfMemory, Problem, Routes};
+use sol_text::{PrintedRoutes, SolFault, SolFaultKind, Solution, read_printed_routes, read_routes};
 use std::alloc::{AllocError, Global};
 
 /// Audits a solution against an instance in this format.
@@ -75,10 +74,10 @@ fn audit_both(
 }
 
 /// Audits the routes of a solution against an instance, whatever cost the solution prints. It differs from
-/// `audit_in_format` in two ways: rule 11 is not checked, and the cost line may be missing or have any word. So
-/// the status is 0 exactly if both texts can be parsed and the routes break no other rule. Such routes are
-/// sound, serve every request, and use no more vehicles than there are. After a pass, the line has their true
-/// distance.
+/// `audit_in_format` in three ways: rule 11 is not checked, the cost line may be missing or have any word, and
+/// lines before the first route line are skipped. So the status is 0 exactly if both texts can be parsed and the
+/// routes break no other rule. Such routes are sound, serve every request, and use no more vehicles than there
+/// are. After a pass, the line has their true distance.
 ///
 /// # Errors
 ///
@@ -134,8 +133,10 @@ pub(crate) fn audit_by(
 pub enum Examination {
     /// The instance is refused.
     BadInstance(ReadFault),
-    /// The solution is refused.
+    /// The routes of the solution are refused.
     BadSolution(SolFault),
+    /// The solution is refused only for its cost. Holds the problem, the routes and the fault of the cost.
+    BadCost(Problem, Routes, SolFault),
     /// Both texts were parsed. Holds the problem, the solution and the verdict.
     Judged(Problem, Solution, Verdict),
 }
@@ -153,16 +154,37 @@ pub fn examine(
         Ok(problem) => problem,
         Err(fault) => return bad_instance(fault),
     };
-    let solution = match read_sol(alloc, solution) {
-        Ok(solution) => solution,
-        Err(fault) => return bad_solution(fault),
-    };
+    match read_printed_routes(alloc, solution) {
+        Ok(printed) => judge_printed(alloc, problem, printed),
+        Err(fault) => bad_solution(fault),
+    }
+}
+
+// Audits a solution, unless its cost has a fault.
+fn judge_printed(
+    alloc: Global,
+    problem: Problem,
+    printed: PrintedRoutes,
+) -> Result<Examination, OutOfMemory>
+    ensures { IfOk result (IsPrintedJudged problem printed.routes printed.cost) }
+{
+    let PrintedRoutes { routes, cost } = printed;
+    match cost {
+        Ok(cost) => judge(alloc, problem, Solution { routes, cost }),
+        Err(fault) => Ok(Examination::BadCost(problem, routes, fault)),
+    }
+}
+
+fn judge(alloc: Global, problem: Problem, solution: Solution) -> Result<Examination, OutOfMemory>
+    ensures { IfOk result (IsSolutionJudged problem solution) }
+{
     let verdict = audit_solution(alloc, &problem, &solution)?;
     Ok(Examination::Judged(problem, solution, verdict))
 }
 
-/// Parses both texts, the instance first, and audits only the routes of the solution. The parsed solution has a
-/// cost of 0, which is not used.
+/// Parses both texts, the instance first, and audits only the routes of the solution. Lines before its first
+/// route line are skipped, and its cost line is not parsed. The solution that is returned has a cost of 0, which
+/// no verdict on routes concerns.
 pub(crate) fn examine_routes(
     alloc: Global,
     format: Format,
@@ -171,27 +193,21 @@ pub(crate) fn examine_routes(
 ) -> Result<Examination, OutOfMemory>
     ensures { IfOk result (AreRoutesExamined format instance.now solution.now) }
 {
-    let text = routes_text(alloc, solution)?;
-    examine_for_routes(alloc, format, instance, &text)
-}
-
-fn examine_for_routes(
-    alloc: Global,
-    format: Format,
-    instance: &[u8],
-    text: &[u8],
-) -> Result<Examination, OutOfMemory>
-    ensures { IfOk result (AreExaminedForRoutes format instance.now text.now) }
-{
     let problem = match read_instance(alloc, format, instance) {
         Ok(problem) => problem,
         Err(fault) => return bad_instance(fault),
     };
-    let solution = match read_sol(alloc, text) {
-        Ok(solution) => solution,
-        Err(fault) => return bad_solution(fault),
-    };
-    let verdict = audit_routes(alloc, &problem, solution.routes.as_slice())?;
+    match read_routes(alloc, solution) {
+        Ok(routes) => judge_routes(alloc, problem, routes),
+        Err(fault) => bad_solution(fault),
+    }
+}
+
+fn judge_routes(alloc: Global, problem: Problem, routes: Routes) -> Result<Examination, OutOfMemory>
+    ensures { IfOk result (AreTheseRoutesJudged problem routes) }
+{
+    let verdict = audit_routes(alloc, &problem, routes.as_slice())?;
+    let solution = Solution { routes, cost: 0 };
     Ok(Examination::Judged(problem, solution, verdict))
 }
 
@@ -240,7 +256,9 @@ pub fn answer_of(alloc: Global, examined: &Examination) -> Result<AuditAnswer, O
 {
     match examined {
         Examination::BadInstance(fault) => refused(alloc, "instance", fault.name(), fault.line),
-        Examination::BadSolution(fault) => refused(alloc, "solution", fault.name(), fault.line),
+        Examination::BadSolution(fault) | Examination::BadCost(_, _, fault) => {
+            refused(alloc, "solution", fault.name(), fault.line)
+        }
         Examination::Judged(_, _, verdict) => verdict_answer(alloc, *verdict),
     }
 }

@@ -4,7 +4,7 @@ ghost use Rattle.std.specs.Io.KnownBytes.{Appends};
 ghost use Rattle.auditor_cli.specs.Answer.{IsAnswerBy};
 ghost use Rattle.auditor_cli.specs.IgnoredLines.{PrintsIgnored, ignored_line_note, ignored_limit_note};
 ghost use Rattle.auditor_cli.specs.Examination.{HasVerdictForSomeCost, answer_of};
-ghost use Rattle.auditor_cli.specs.Explain.{IsExplanation, RestsOn, RestsOnFault, GivesRoutesDistance, ExplainsFiles, PrintsExplanationResult, ExplainsTexts, distance_of_routes, answer_and_text};
+ghost use Rattle.auditor_cli.specs.Explain.{IsExplanation, RestsOn, RestsOnCost, ExplainsFiles, PrintsExplanationResult, ExplainsTexts, answer_and_text};
 ghost use Rattle.auditor_cli.specs.Files.{AreReadInTurn};
 
 use crate::answer::AuditAnswer;
@@ -15,11 +15,11 @@ use crate::ignored_lines::print_ignored;
 use crate::messages::{print_out_of_memory, print_read_failure, write_line};
 use command_line::Paths;
 use instance_read::Format;
-use plan_audit::routes_are_judged_by_true_cost;
+use plan_audit::{audit_routes, routes_are_judged_by_true_cost};
 use plan_explain::{
     explain_distance, explain_instance_fault, explain_solution_fault, explain_verdict,
 };
-use plan_types::OutOfMemory;
+use plan_types::{OutOfMemory, Problem, Route};
 use sol_text::SolFault;
 use std::alloc::Global;
 use std::io;
@@ -178,8 +178,9 @@ fn rests_on(
 {
     match examined {
         Examination::BadInstance(fault) => explain_instance_fault(alloc, format, instance, *fault),
-        Examination::BadSolution(fault) => {
-            rests_on_fault(alloc, format, instance, solution, *fault)
+        Examination::BadSolution(fault) => explain_solution_fault(alloc, solution, *fault),
+        Examination::BadCost(problem, routes, fault) => {
+            rests_on_cost(alloc, solution, problem, routes.as_slice(), *fault)
         }
         Examination::Judged(problem, plan, verdict) => explain_verdict(
             alloc, problem, plan, *verdict,
@@ -187,48 +188,21 @@ fn rests_on(
     }
 }
 
-// Returns the explanation for a solution that is refused, and the distance of its routes if they can be parsed.
-fn rests_on_fault(
+// Returns the explanation for a fault of the cost, and the distance of the routes if that is known.
+fn rests_on_cost(
     alloc: Global,
-    format: Format,
-    instance: &[u8],
     solution: &[u8],
+    problem: &Problem,
+    routes: &[Route],
     fault: SolFault,
 ) -> Result<String, OutOfMemory>
-    ensures { IfOk result (λ text. RestsOnFault format instance.now solution.now fault
-        (string_bytes text)) }
-{
-    let mut text = explain_solution_fault(alloc, solution, fault)?;
-    let driven = routes_distance(alloc, format, instance, solution)?;
-    text.push_str(driven.as_str())?;
-    Ok(text)
-}
-
-// Returns the line with the distance of the solution's routes, whatever its cost line is. Returns an empty text
-// if the routes can't be parsed or the distance is not known.
-fn routes_distance(
-    alloc: Global,
-    format: Format,
-    instance: &[u8],
-    solution: &[u8],
-) -> Result<String, OutOfMemory>
-    ensures { IfOk result (λ text. GivesRoutesDistance format instance.now solution.now
+    ensures { IfOk result (λ text. RestsOnCost solution.now problem.now routes.now fault
         (string_bytes text)) }
 {
     routes_are_judged_by_true_cost();
-    let routes = examine_by(alloc, format, true, instance, solution)?;
-    distance_of_routes(alloc, &routes)
-}
-
-// Returns the line with the distance of these routes, or an empty text if they could not be parsed.
-fn distance_of_routes(alloc: Global, routes: &Examination) -> Result<String, OutOfMemory>
-    requires { HasVerdictForSomeCost routes.now }
-    ensures { IfOk result (λ text. string_bytes text ≡ distance_of_routes routes.now) }
-{
-    match routes {
-        Examination::Judged(problem, plan, verdict) => {
-            explain_distance(alloc, problem, plan.routes.as_slice(), *verdict)
-        }
-        Examination::BadInstance(_) | Examination::BadSolution(_) => Ok(String::new(alloc)),
-    }
+    let verdict = audit_routes(alloc, problem, routes)?;
+    let mut text = explain_solution_fault(alloc, solution, fault)?;
+    let driven = explain_distance(alloc, problem, routes, verdict)?;
+    text.push_str(driven.as_str())?;
+    Ok(text)
 }

@@ -14,7 +14,6 @@
 //! Modules, in reading order:
 //! - `status`: the exit statuses
 //! - `answer`: the lines that answer an audit
-//! - `routes_alone`: the routes of a solution, without its cost
 //! - `audit`, `example`: the audit of an instance and a solution in memory, and of the built-in ones
 //! - `partial`: plans that leave requests out, for subcommands that show a plan
 //! - `messages`, `usage`: the lines for files that can't be read or made, and for help and usage errors
@@ -55,7 +54,6 @@ mod ignored_lines;
 mod messages;
 mod partial;
 mod program;
-mod routes_alone;
 pub mod status;
 mod usage;
 

@@ -1,16 +1,16 @@
 //! Partial plans: plans that leave requests out, as `solve` prints them, with route lines but no cost line.
 ghost use Rattle.std.specs.Prelude.{◌≡◌, IfOk, MatchOption};
-ghost use Rattle.auditor_cli.specs.Examination.{IsBadSolution};
-ghost use Rattle.auditor_cli.specs.Partial.{IsCostOfPartial, IsNotPartial, IsPartialOf, IsPartialPlan, IsPlanExamined, keeps_stops, partial_answer};
+ghost use Rattle.sol_text.specs.declared.faults.SolFaultKind.TheVariants.{NoCost};
+ghost use Rattle.auditor_cli.specs.Partial.{IsCostOfPartial, IsPartialOrRefused, IsPartialPlan, IsPlanExamined, keeps_stops, partial_answer};
 
 use crate::answer::{AuditAnswer, partial_line};
-use crate::audit::{Examination, examine, examine_routes};
+use crate::audit::{Examination, examine};
 use crate::status::BROKEN;
 use instance_read::Format;
 use plan_audit::{Rule, Verdict, audit};
 use plan_types::{Cost, OutOfMemory, Pins, Plan, Problem, Routes};
 use route_sched::{plan_cost, used_count};
-use sol_text::{SolFault, SolFaultKind, Solution};
+use sol_text::{SolFault, SolFaultKind};
 use std::alloc::Global;
 
 /// A plan that keeps rules 1 to 8, uses no more vehicles than there are, and leaves requests out. A pair is
@@ -43,65 +43,50 @@ pub fn examine_plan(
     ensures { IfOk result (IsPlanExamined format instance.now solution.now) }
 {
     match examine(alloc, format, instance, solution)? {
-        Examination::BadSolution(fault) => {
-            partial_or_refused(alloc, format, instance, solution, fault)
+        Examination::BadCost(problem, routes, fault) => {
+            partial_or_refused(alloc, problem, routes, fault)
         }
         examined => Ok(PlanExamination::Whole(examined)),
     }
 }
 
-// Examines two texts whose solution is refused with this fault. The solution may be a partial plan only if the
-// fault is its missing cost line.
+// Returns the partial plan that the routes form, or the fault of the cost if they form none.
 fn partial_or_refused(
     alloc: Global,
-    format: Format,
-    instance: &[u8],
-    solution: &[u8],
+    problem: Problem,
+    routes: Routes,
     fault: SolFault,
 ) -> Result<PlanExamination, OutOfMemory>
-    requires { IsBadSolution format instance.now solution.now fault }
-    ensures { IfOk result (IsPlanExamined format instance.now solution.now) }
+    ensures { IfOk result (IsPartialOrRefused problem routes fault) }
 {
-    if fault.kind != SolFaultKind::NoCost {
-        return Ok(PlanExamination::Whole(Examination::BadSolution(fault)));
-    }
-    let routes = examine_routes(alloc, format, instance, solution)?;
-    match partial_of(alloc, routes)? {
-        Some(partial) => Ok(PlanExamination::Partial(partial)),
-        None => Ok(PlanExamination::Whole(Examination::BadSolution(fault))),
-    }
-}
-
-// Returns the partial plan that the routes form, or `None` if they form none.
-fn partial_of(alloc: Global, routes: Examination) -> Result<Option<PartialPlan>, OutOfMemory>
-    ensures { IfOk result (λ found. MatchOption found (IsNotPartial routes) (IsPartialOf routes)) }
-{
-    match routes {
-        Examination::Judged(problem, printed, _) => partial_plan(alloc, problem, printed),
-        _ => Ok(None),
-    }
-}
-
-fn partial_plan(
-    alloc: Global,
-    problem: Problem,
-    printed: Solution,
-) -> Result<Option<PartialPlan>, OutOfMemory>
-    ensures { IfOk result (λ found. MatchOption found
-        (IsPartialPlan problem printed.routes → ⊥)
-        (λ partial. (partial.problem ≡ problem) × (partial.plan.routes ≡ printed.routes)
-        × IsCostOfPartial problem printed.routes partial.cost)) }
-{
-    let plan = Plan {
-        routes: printed.routes,
-    };
-    match partial_cost(alloc, &problem, &plan)? {
-        Some(cost) => Ok(Some(PartialPlan {
+    let plan = Plan { routes };
+    match cost_without_line(alloc, &problem, &plan, fault)? {
+        Some(cost) => Ok(PlanExamination::Partial(PartialPlan {
             problem,
             plan,
             cost,
         })),
-        None => Ok(None),
+        None => {
+            let Plan { routes } = plan;
+            Ok(PlanExamination::Whole(Examination::BadCost(problem, routes, fault)))
+        }
+    }
+}
+
+// Returns the cost of a partial plan whose cost line is missing, or `None` if it is not one.
+fn cost_without_line(
+    alloc: Global,
+    problem: &Problem,
+    plan: &Plan,
+    fault: SolFault,
+) -> Result<Option<Cost>, OutOfMemory>
+    ensures { IfOk result (λ found. MatchOption found
+        (fault.kind ≡ NoCost → IsPartialPlan problem.now plan.now.routes → ⊥)
+        (λ cost. (fault.kind ≡ NoCost) × IsCostOfPartial problem.now plan.now.routes cost)) }
+{
+    match fault.kind {
+        SolFaultKind::NoCost => partial_cost(alloc, problem, plan),
+        _ => Ok(None),
     }
 }
 

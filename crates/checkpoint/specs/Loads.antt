@@ -4,7 +4,7 @@ use Rattle.sector_disk.specs.declared.sectors.Sectors as sectors
 use Rattle.state_codec.specs.declared.version.Version.{Version}
 use Rattle.checkpoint.specs.declared.faults.StoreFault.{StoreFault}
 use Rattle.checkpoint.specs.declared.faults.StoreFault.TheVariants.{NotFormatted}
-use Rattle.checkpoint.specs.declared.loads.StoreContent.{StoreContent}
+use Rattle.checkpoint.specs.declared.loads.Loaded.{Loaded}
 use Rattle.checkpoint.specs.Holds.{Holds, layout_of}
 use Rattle.checkpoint.specs.InvalidImages.{HoldsNothing, IsLoadFault, UnlessReadFailed}
 use Rattle.checkpoint.specs.Layouts.{min_sectors, sectors_in}
@@ -22,6 +22,6 @@ module _ {D : Type 0} (on : sectors.Ghosts D) where
     pub found : on.honest new → MatchResult result Is (UnlessReadFailed none)
 
   -- The result of `load` for a store of this version.
-  abbrev pub IsLoaded : Version → Result StoreContent StoreFault → D → D → Type 0
+  abbrev pub IsLoaded : Version → Result Loaded StoreFault → D → D → Type 0
   IsLoaded version result old new = ReportsStore (λ loaded. IsWellFormedLoad (sectors_in (layout_of version)) (on.len old) loaded.state loaded.place)
       (λ loaded. Holds version (on.seen old) loaded.state loaded.commands.items loaded.place) (HoldsNothing version (on.seen old)) result old new

@@ -58,5 +58,5 @@ pub use laws::{
     images_hold_at_most_one_state,
 };
 pub use layouts::{LAST_SEQUENCE, MIN_SECTORS, RECORDS, SECTORS};
-pub use loads::{StoreContent, load, load_latest, load_latest_v1};
+pub use loads::{Loaded, load, load_latest, load_latest_v1};
 pub use places::Place;

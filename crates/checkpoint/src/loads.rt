@@ -96,7 +96,7 @@ pub(crate) fn read_snapshot<D: Sectors>(
 
 /// The content of a store.
 #[derive(Debug, Drop)]
-pub struct StoreContent {
+pub struct Loaded {
     /// The state in the snapshot.
     pub state: State,
     /// The commands of the records after the snapshot, in order.
@@ -112,7 +112,7 @@ pub(crate) fn load_journal(
     header: Header,
     prefix: &[u8],
     state: State,
-) -> Result<StoreContent, StoreFault>
+) -> Result<Loaded, StoreFault>
     requires { length prefix.now ≡ 512 * prefix_sectors }
 
     ensures facts { IsState state }
@@ -130,7 +130,7 @@ pub(crate) fn load_journal(
 {
     keeps_invariants(&state);
     match journal(alloc, version, prefix, header.sequence, &state) {
-        Ok(commands) => Ok(StoreContent {
+        Ok(commands) => Ok(Loaded {
             place: Place {
                 sequence: header.sequence,
                 used: commands.len() as u32,
@@ -232,7 +232,7 @@ pub(crate) fn interpret(
     opened: &HeaderAndJournal,
     bytes: &[u8],
     decoded: Result<State, CodecFault>,
-) -> Result<StoreContent, StoreFault>
+) -> Result<Loaded, StoreFault>
     requires long { length opened.now.prefix.items ≡ 512 * prefix_sectors }
     requires decodes { Decodes version bytes.now decoded }
 
@@ -268,7 +268,7 @@ pub fn load<D: Sectors>(
     alloc: Global,
     device: &mut D,
     version: Version,
-) -> Result<StoreContent, StoreFault>
+) -> Result<Loaded, StoreFault>
     ensures loaded { IsLoaded D.Sectors version result device.old device.new }
     ensures reads { ReadsOnly D.Sectors (faults_after_reading result) device.old device.new }
 {
@@ -281,7 +281,7 @@ pub fn load<D: Sectors>(
 }
 
 /// Reads a store of the current version with `load`.
-pub fn load_latest<D: Sectors>(alloc: Global, device: &mut D) -> Result<StoreContent, StoreFault>
+pub fn load_latest<D: Sectors>(alloc: Global, device: &mut D) -> Result<Loaded, StoreFault>
     ensures loaded { IsLoaded D.Sectors Two result device.old device.new }
     ensures reads { ReadsOnly D.Sectors (faults_after_reading result) device.old device.new }
 {
@@ -289,7 +289,7 @@ pub fn load_latest<D: Sectors>(alloc: Global, device: &mut D) -> Result<StoreCon
 }
 
 /// Reads a store of version 1 with `load`.
-pub fn load_latest_v1<D: Sectors>(alloc: Global, device: &mut D) -> Result<StoreContent, StoreFault>
+pub fn load_latest_v1<D: Sectors>(alloc: Global, device: &mut D) -> Result<Loaded, StoreFault>
     ensures loaded { IsLoaded D.Sectors One result device.old device.new }
     ensures reads { ReadsOnly D.Sectors (faults_after_reading result) device.old device.new }
 {

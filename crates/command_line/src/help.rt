@@ -32,8 +32,8 @@ pub(crate) const AUDIT_ANSWERS: &str = "It prints one line:\n  \
     out of memory                       (status 4)\n\n\
     Text after the cost line is not read. Standard error names the first such line that is not blank, and the first\n\
     line of a vrp instance that sets a limit which no rule checks.\n\n\
-    With the last argument `routes`, only the routes are checked, by rules 1 to 9, and DISTANCE is their length. The\n\
-    solution then needs no cost line, and the cost of one that it has is not read.\n\n\
+    With the last argument `routes`, only the routes are checked, by rules 1 to 9, and DISTANCE is their length. Lines\n\
+    before the first route are skipped. The cost line may be missing, and its cost is not read.\n\n\
     Routes, places and lines count from 1. The rules:\n  \
     1   an unknown stop\n  \
     2   a stop that is visited twice\n  \

@@ -4,7 +4,7 @@ use crate::examples::{Example, bytes_of, commands_of, invalid_data, or_invalid_d
 use crate::tables::print_row;
 use checkpoint::{SECTORS, check_integrity, format};
 use command_core::Command;
-use recover::{Denial, OpenedStore, Reply, Run, Session};
+use recover::{Denial, Opened, Reply, Run, Session};
 use sector_disk::MemDevice;
 use std::alloc::{AllocError, Global};
 use std::io;
@@ -90,7 +90,7 @@ pub(crate) fn fresh(alloc: Global) -> io::Result<MemDevice> {
 }
 
 /// Opens the store on the device.
-pub(crate) fn open(alloc: Global, device: MemDevice) -> io::Result<OpenedStore<MemDevice>> {
+pub(crate) fn open(alloc: Global, device: MemDevice) -> io::Result<Opened<MemDevice>> {
     or_invalid_data(Session::open(alloc, device))
 }
 
@@ -161,7 +161,7 @@ impl RunResult {
     fn with(
         alloc: Global,
         run: &Result<Run, AllocError>,
-        opened: &io::Result<OpenedStore<MemDevice>>,
+        opened: &io::Result<Opened<MemDevice>>,
         has_warning: io::Result<bool>,
     ) -> io::Result<RunResult> {
         match (run, opened) {
@@ -173,7 +173,7 @@ impl RunResult {
     fn found(
         alloc: Global,
         replies: &[Reply],
-        opened: &OpenedStore<MemDevice>,
+        opened: &Opened<MemDevice>,
         has_warning: bool,
     ) -> io::Result<RunResult> {
         Ok(RunResult {

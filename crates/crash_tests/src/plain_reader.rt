@@ -1,6 +1,6 @@
 //! A plain reader of images. It follows the table of the store format in `docs/FORMATS.md` sector by sector.
 
-use checkpoint::{Place, StoreContent, StoreFault};
+use checkpoint::{Loaded, Place, StoreFault};
 use command_core::{Command, State};
 use state_codec::{CodecFault, decode_record, decode_state};
 use std::alloc::Global;
@@ -120,12 +120,12 @@ fn state_of(alloc: Global, image: &[u8], sequence: u64, length: u64) -> Result<S
 }
 
 /// Returns the snapshot and the commands that the image holds, or the fault if it holds nothing.
-pub(crate) fn held(alloc: Global, image: &[u8]) -> Result<StoreContent, StoreFault> {
+pub(crate) fn held(alloc: Global, image: &[u8]) -> Result<Loaded, StoreFault> {
     let (sequence, length) = latest_header_of(image)?;
     let used = used_of(image, sequence)?;
     let commands = journal_of(alloc, image, sequence, used)?;
     let state = state_of(alloc, image, sequence, length)?;
-    Ok(StoreContent {
+    Ok(Loaded {
         state,
         commands,
         place: Place { sequence, used },

@@ -4,7 +4,7 @@ use crate::crashes::{built, choices_of, fresh};
 use crate::examples::{Example, bytes_of, invalid_data, load_three, states_of};
 use crate::tables::{count, print_row};
 use checkpoint::{MIN_SECTORS, SECTORS, StoreFault};
-use recover::{OpenedStore, Session, UpgradeFault, upgrade};
+use recover::{Opened, Session, UpgradeFault, upgrade};
 use sector_disk::{MemDevice, Sectors};
 use std::alloc::Global;
 use std::io;
@@ -141,7 +141,7 @@ fn outcome_of(alloc: Global, device: MemDevice, state: &[u8]) -> io::Result<Outc
 
 fn outcome_of_session(
     alloc: Global,
-    opened: &OpenedStore<MemDevice>,
+    opened: &Opened<MemDevice>,
     state: &[u8],
 ) -> io::Result<Outcome> {
     let bytes = bytes_of(alloc, opened.session.state())?;

@@ -13,13 +13,13 @@ use Rattle.planner_cli.specs.Run.{IsUntouched, RunsStore, ServesStore}
 use Rattle.recover.specs.Opening.{IsRefused}
 use Rattle.planner_cli.specs.declared.opening.OpenFailure.{OpenFailure}
 use Rattle.planner_cli.specs.declared.opening.OpenFailure.TheVariants.{File, Store, FormatFailed}
-use Rattle.recover.specs.declared.opening.OpenedStore.{OpenedStore}
+use Rattle.recover.specs.declared.opening.Opened.{Opened}
 use Rattle.file_disk.specs.DeviceFiles.{IsNotOpenedExistingAt}
 use Rattle.file_disk.specs.declared.file_device.OpenError.{OpenError}
 use Rattle.sector_disk.specs.declared.sectors.Sectors as sectors
 
 module _ {D : Type 0} (on : sectors.Ghosts D) where
-  pub opening_of : (IsReady IsBare : D → Type 0) (IsNone : OpenError → Type 0) (device : D) → IsReady device → (opening : Result (OpenedStore D) (OpenFailure D)) → IsOpening on device opening
+  pub opening_of : (IsReady IsBare : D → Type 0) (IsNone : OpenError → Type 0) (device : D) → IsReady device → (opening : Result (Opened D) (OpenFailure D)) → IsOpening on device opening
       → IsOpeningOf on IsReady IsBare IsNone opening
   opening_of IsReady IsBare IsNone device ready (Ok opened) is = record { device = device; ready = ready; opens = is }
   opening_of IsReady IsBare IsNone device ready (Err (Store fault left)) is = record { device = device; ready = ready; refuses = is }
@@ -28,7 +28,7 @@ module _ {D : Type 0} (on : sectors.Ghosts D) where
 
   -- Opening a device fails only after its file was opened, so the number of steps to replay may have been
   -- printed.
-  pub foreseen_of : (device : D) (opening : Result (OpenedStore D) (OpenFailure D)) (before after : Option (List ℕ)) → IsOpening on device opening
+  pub foreseen_of : (device : D) (opening : Result (Opened D) (OpenFailure D)) (before after : Option (List ℕ)) → IsOpening on device opening
       → IfErr opening (λ unopened. MayAnnounceReplay unopened before after)
   foreseen_of device (Ok opened) before after is = tt
   foreseen_of device (Err (Store fault left)) before after is = tt
@@ -41,7 +41,7 @@ module _ {D : Type 0} (on : sectors.Ghosts D) where
   -- The result of opening a device that held no store: it was formatted and then opened.
   pub opening_of_formatted : (IsNew : D → Type 0) (IsNone : OpenError → Type 0) (bare ready : D) (made : Result Place FormatFault) (place : Place)
       → HoldsNoStore on IsNew bare → made ≡ Ok place → IsFormatted on bare ready made
-      → (opening : Result (OpenedStore D) (OpenFailure D)) → IsOpening on ready opening → IsOpeningOf on (IsReadyStore on IsNew) (HoldsNoStore on IsNew) IsNone opening
+      → (opening : Result (Opened D) (OpenFailure D)) → IsOpening on ready opening → IsOpeningOf on (IsReadyStore on IsNew) (HoldsNoStore on IsNew) IsNone opening
   opening_of_formatted IsNew IsNone bare ready made place found is formatted opening opens =
       opening_of (IsReadyStore on IsNew) (HoldsNoStore on IsNew) IsNone ready (inr (bare, place, found, subst (IsFormatted on bare ready) is formatted)) opening opens
 

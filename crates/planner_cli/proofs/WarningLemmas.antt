@@ -17,7 +17,7 @@ use Rattle.planner_cli.proofs.OpenLemmas.{failed_first, found, unread}
 use Rattle.planner_cli.specs.WarnedOpening.{IsWarningOfImage, IsFirstWarning, IsWarned, warning_line, first_warning}
 use Rattle.planner_cli.specs.ReplayNotice.{AnnouncesReplay, IsStepsOfImage}
 use Rattle.recover.specs.Opening.{IsOnlyRead, IsOpened, IsRefused, IsStepsToReplay}
-use Rattle.recover.specs.declared.opening.OpenedStore.{OpenedStore}
+use Rattle.recover.specs.declared.opening.Opened.{Opened}
 use Rattle.sector_disk.specs.declared.sectors.Sectors as sectors
 use Rattle.state_codec.specs.declared.version.Version.TheVariants.{Two}
 
@@ -96,7 +96,7 @@ module _ {D : Type 0} (on : sectors.Ghosts D) (old read : D) where
   -- The lines that are printed before the opening: the first warning, then the number of steps to replay.
   module _ (store : List ℕ) (doubts : IntegrityWarnings) (before warned later : Option (List ℕ)) (are : on.honest read → AreWarningsOf (on.seen old) doubts)
       (same : on.honest read → on.seen read ≡ on.seen old) (reported : Appends before warned (warning_line store (first_warning doubts))) where
-    pub warned_before : (opening : Result (OpenedStore D) (StoreFault × D))
+    pub warned_before : (opening : Result (Opened D) (StoreFault × D))
         → MatchResult opening (λ o. IsOpened on read o.session o.replayed) (λ r. IsRefused on read r.1 r.0)
         → MatchResult opening (λ o. AnnouncesReplay on o.session.device (λ steps. o.replayed ≡ steps) warned later) (λ r. AnnouncesReplay on r.1 (IsStepsOfImage on read r.0) warned later)
         → MatchResult opening (λ o. IsWarned on o.session.device store (IsFirstWarning (on.seen old)) (λ steps. o.replayed ≡ steps) before later)

@@ -21,7 +21,7 @@ use Rattle.planner_cli.specs.Opening.{MayAnnounceReplay, PrintsOpenFailure}
 use Rattle.auditor_cli.specs.Messages.{PrintsReadFailure}
 use Rattle.auditor_cli.specs.Partial.{IsPlanExamined}
 use Rattle.auditor_cli.specs.declared.audit.Examination.{Examination}
-use Rattle.auditor_cli.specs.declared.audit.Examination.TheVariants.{BadInstance, BadSolution, Judged}
+use Rattle.auditor_cli.specs.declared.audit.Examination.TheVariants.{BadCost, BadInstance, BadSolution, Judged}
 use Rattle.auditor_cli.specs.declared.partial.PartialPlan.{PartialPlan}
 use Rattle.auditor_cli.specs.declared.partial.PlanExamination.{PlanExamination}
 use Rattle.auditor_cli.specs.declared.partial.PlanExamination.TheVariants as plan
@@ -43,6 +43,7 @@ IsPictureOf _ p routes verdict drawing = ⊥
 abbrev pub IsDrawingOf : Option ℕ → Examination → Drawing → Type 0
 IsDrawingOf route (BadInstance fault) drawing = drawing ≡ Refused (answer_of (BadInstance fault))
 IsDrawingOf route (BadSolution fault) drawing = drawing ≡ Refused (answer_of (BadSolution fault))
+IsDrawingOf route (BadCost problem routes fault) drawing = drawing ≡ Refused (answer_of (BadCost problem routes fault))
 IsDrawingOf route (Judged problem plan verdict) drawing = IsPictureOf route problem plan.routes verdict drawing
 
 -- The picture of a partial plan or of one of its routes, and the requests that the plan leaves out.

@@ -25,7 +25,7 @@ use Rattle.auditor_cli.specs.Messages.{PrintsReadFailure}
 use Rattle.recover.specs.Applying.{IsApplied}
 use Rattle.recover.specs.Sessions.{SessionValue}
 use Rattle.recover.specs.RecoversTo.{RecoversTo}
-use Rattle.recover.specs.declared.opening.OpenedStore.{OpenedStore}
+use Rattle.recover.specs.declared.opening.Opened.{Opened}
 use Rattle.recover.specs.declared.replies.Reply.{Reply}
 use Rattle.file_disk.specs.DeviceFiles.{FileRequestEntry}
 use Rattle.file_disk.specs.declared.device_files.FileRequest.TheVariants.{Create, OpenExisting}
@@ -66,7 +66,7 @@ module _ {D X : Type 0} (on : sectors.Ghosts D) where
 
   -- Either the store was opened, and its session answers the command or already holds an instance. Or the reason
   -- why the store was not opened is printed.
-  abbrev pub LoadsOpening : Result (OpenedStore D) (OpenFailure D) → List ℕ → Command → Stream → Stream → Result ℕ X → Option D → Type 0
+  abbrev pub LoadsOpening : Result (Opened D) (OpenFailure D) → List ℕ → Command → Stream → Stream → Result ℕ X → Option D → Type 0
   LoadsOpening opening path command before after reported left =
       MatchResult opening (λ opened. (device : D) × (left ≡ Some device) × LoadsSession opened.session command before after device reported)
       (λ unopened. IsLeftOnFailure on unopened left × PrintsText (open_failure_line path unopened) (open_failure_status unopened) before.contents after.contents reported)
@@ -78,21 +78,21 @@ pub record DiskRequests : Type 0 where
 
 module _ {D E X : Type 0} (on_old : sectors.Ghosts D) (on_new : sectors.Ghosts E) (IsOld : List ℕ → D → Type 0) (IsNew : List ℕ → E → Type 0) (disks : DiskRequests) where
   -- The file at the path exists, and the instance is loaded into the store in it. No other file is requested.
-  abbrev pub LoadsExistingFile : List ℕ → Command → Result (OpenedStore D) (OpenFailure D) → Stream → Stream → Result ℕ X → StoreDevices D E → Type 0
+  abbrev pub LoadsExistingFile : List ℕ → Command → Result (Opened D) (OpenFailure D) → Stream → Stream → Result ℕ X → StoreDevices D E → Type 0
   LoadsExistingFile path command opening before after reported left =
       (needs_new_file on_old opening ≡ false) × (disks.now ≡ (OpenExisting, path) ∷ disks.was) × (left.new_store ≡ None) × LoadsOpening on_old opening path command before after reported left.store
 
   -- There was no file at the path, or an empty one. The instance is loaded into the store in a new file.
-  abbrev pub LoadsNewFile : List ℕ → Command → Result (OpenedStore D) (OpenFailure D) → Stream → Stream → Result ℕ X → StoreDevices D E → Type 0
+  abbrev pub LoadsNewFile : List ℕ → Command → Result (Opened D) (OpenFailure D) → Stream → Stream → Result ℕ X → StoreDevices D E → Type 0
   LoadsNewFile path command opening before after reported left =
       (needs_new_file on_old opening ≡ true) × (disks.now ≡ (Create, path) ∷ (OpenExisting, path) ∷ disks.was) × (left.store ≡ None)
-      × ((made : Result (OpenedStore E) (OpenFailure E)) × IsNewOpening on_new IsNew path made × LoadsOpening on_new made path command before after reported left.new_store)
+      × ((made : Result (Opened E) (OpenFailure E)) × IsNewOpening on_new IsNew path made × LoadsOpening on_new made path command before after reported left.new_store)
 
   -- The file at the path is opened first. `IsOld` and `IsNew` say what is known about the devices over the
   -- existing and over the new file.
   abbrev pub LoadsStore : List ℕ → Command → Stream → Stream → Result ℕ X → StoreDevices D E → Type 0
   LoadsStore path command before after reported left =
-      (opening : Result (OpenedStore D) (OpenFailure D)) × IsStoreOpening on_old IsOld path opening
+      (opening : Result (Opened D) (OpenFailure D)) × IsStoreOpening on_old IsOld path opening
       × (LoadsExistingFile path command opening before after reported left ⊎ LoadsNewFile path command opening before after reported left)
 
   -- The text is parsed and its instance loaded into the store; or its first fault is printed, and no store is

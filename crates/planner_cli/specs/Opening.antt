@@ -15,7 +15,7 @@ use Rattle.planner_cli.specs.Messages.{file_fault_line, file_fault_status, store
 use Rattle.planner_cli.specs.declared.opening.OpenFailure.{OpenFailure}
 use Rattle.planner_cli.specs.declared.opening.OpenFailure.TheVariants.{File, Store, FormatFailed}
 use Rattle.recover.specs.Opening.{IsOpened, IsRefused}
-use Rattle.recover.specs.declared.opening.OpenedStore.{OpenedStore}
+use Rattle.recover.specs.declared.opening.Opened.{Opened}
 use Rattle.file_disk.specs.DeviceFiles.{IsNotCreatedAt, IsNotOpenedExistingAt}
 use Rattle.file_disk.specs.declared.file_device.OpenError.{OpenError}
 use Rattle.sector_disk.specs.declared.sectors.Sectors as sectors
@@ -55,14 +55,14 @@ module _ {D : Type 0} (on : sectors.Ghosts D) where
   IsRefusal device _ = ⊥
 
   -- The result of opening this device: a session, or the fault and the device afterwards.
-  abbrev pub IsOpening : D → Result (OpenedStore D) (OpenFailure D) → Type 0
+  abbrev pub IsOpening : D → Result (Opened D) (OpenFailure D) → Type 0
   IsOpening device opening = MatchResult opening (λ opened. IsOpened on device opened.session opened.replayed) (IsRefusal device)
 
   -- ---- In files: `IsReady` says what is known about a device that is opened, `IsBare` about one that is
   -- formatted
 
   -- The session was opened on some device for which `IsReady` holds.
-  pub record IsOpenedFrom (IsReady : D → Type 0) (opened : OpenedStore D) : Type 0 where
+  pub record IsOpenedFrom (IsReady : D → Type 0) (opened : Opened D) : Type 0 where
     pub device : D
     pub ready : IsReady device
     pub opens : IsOpened on device opened.session opened.replayed
@@ -87,12 +87,12 @@ module _ {D : Type 0} (on : sectors.Ghosts D) where
   IsOpenFailure IsReady IsBare IsNone (FormatFailed fault left) = IsFormatFailure IsBare fault left
 
   -- The result of opening a store: a session, or the reason why there is none.
-  abbrev pub IsOpeningOf : (D → Type 0) → (D → Type 0) → (OpenError → Type 0) → Result (OpenedStore D) (OpenFailure D) → Type 0
+  abbrev pub IsOpeningOf : (D → Type 0) → (D → Type 0) → (OpenError → Type 0) → Result (Opened D) (OpenFailure D) → Type 0
   IsOpeningOf IsReady IsBare IsNone opening = MatchResult opening (IsOpenedFrom IsReady) (IsOpenFailure IsReady IsBare IsNone)
 
   -- The result of opening the store in the existing file at a path. Nothing is formatted. `IsOld` says what is
   -- known about the device over that file.
-  abbrev pub IsStoreOpening : (List ℕ → D → Type 0) → List ℕ → Result (OpenedStore D) (OpenFailure D) → Type 0
+  abbrev pub IsStoreOpening : (List ℕ → D → Type 0) → List ℕ → Result (Opened D) (OpenFailure D) → Type 0
   IsStoreOpening IsOld path opening = IsOpeningOf (IsOld path) (λ device. ⊥) (IsNotOpenedExistingAt path) opening
 
   -- The device is over a file that was made with 8,450 sectors of 512 bytes. `IsNew` says what else is known
@@ -112,17 +112,17 @@ module _ {D : Type 0} (on : sectors.Ghosts D) where
 
   -- The result of opening the store in a file that was made at a path. If the file held no store, it was
   -- formatted first.
-  abbrev pub IsNewOpening : (List ℕ → D → Type 0) → List ℕ → Result (OpenedStore D) (OpenFailure D) → Type 0
+  abbrev pub IsNewOpening : (List ℕ → D → Type 0) → List ℕ → Result (Opened D) (OpenFailure D) → Type 0
   IsNewOpening IsNew path opening = IsOpeningOf (IsReadyStore (IsNew path)) (HoldsNoStore (IsNew path)) (IsNotCreatedAt (sectors_in version_2) path) opening
 
   -- The store in the file at a path was opened, and `OnOpened` holds for the result; or it was not, and
   -- `OnUnopened` holds for the reason.
-  abbrev pub OpensStore : (List ℕ → D → Type 0) → List ℕ → (OpenedStore D → Type 0) → (OpenFailure D → Type 0) → Type 0
-  OpensStore IsOld path OnOpened OnUnopened = (opening : Result (OpenedStore D) (OpenFailure D)) × IsStoreOpening IsOld path opening × MatchResult opening OnOpened OnUnopened
+  abbrev pub OpensStore : (List ℕ → D → Type 0) → List ℕ → (Opened D → Type 0) → (OpenFailure D → Type 0) → Type 0
+  OpensStore IsOld path OnOpened OnUnopened = (opening : Result (Opened D) (OpenFailure D)) × IsStoreOpening IsOld path opening × MatchResult opening OnOpened OnUnopened
 
   -- Whether the store needs a new file: the system reports that there is no file at the path, or the file is
   -- empty, as `load` leaves it if the disk is full.
-  abbrev pub needs_new_file : Result (OpenedStore D) (OpenFailure D) → Bool
+  abbrev pub needs_new_file : Result (Opened D) (OpenFailure D) → Bool
   needs_new_file (Ok opened) = false
   needs_new_file (Err (File refusal)) = is_not_found (option_map error_kind refusal.cause)
   needs_new_file (Err (Store NotFormatted left)) = on.len left == 0

@@ -26,7 +26,7 @@ use Rattle.planner_cli.specs.Solve.{left_out_text}
 use Rattle.planner_cli.specs.declared.timetable.TimetableReport.{TimetableReport}
 use Rattle.planner_cli.specs.Opening.{PrintsOpenFailure}
 use Rattle.auditor_cli.specs.declared.audit.Examination.{Examination}
-use Rattle.auditor_cli.specs.declared.audit.Examination.TheVariants.{BadInstance, BadSolution, Judged}
+use Rattle.auditor_cli.specs.declared.audit.Examination.TheVariants.{BadCost, BadInstance, BadSolution, Judged}
 use Rattle.auditor_cli.specs.declared.explain.Explanation.{Explanation}
 use Rattle.auditor_cli.specs.declared.partial.PartialPlan.{PartialPlan}
 use Rattle.auditor_cli.specs.declared.partial.PlanExamination.{PlanExamination}
@@ -51,6 +51,7 @@ solution_text form p routes verdict = solution_timetable_text form p routes (unp
 abbrev pub IsTimetableOf : Form → Examination → List ℕ → Type 0
 IsTimetableOf form (BadInstance fault) text = text ≡ []
 IsTimetableOf form (BadSolution fault) text = text ≡ []
+IsTimetableOf form (BadCost problem routes fault) text = text ≡ []
 IsTimetableOf form (Judged problem plan verdict) text = text ≡ solution_text form problem plan.routes verdict
 
 -- The report on two examined files: the answer of the audit and the timetable. It names no request as left out.

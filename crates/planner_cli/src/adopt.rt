@@ -18,7 +18,7 @@ use command_server::FailureTracking;
 use command_text::Answer;
 use file_disk::{DeviceFiles, FileAssumptions, FileCalls, FileDevice, FileRequest, HostFile};
 use plan_types::Plan;
-use recover::{Denial, OpenedStore, Session};
+use recover::{Denial, Opened, Session};
 use sector_disk::Sectors;
 use std::alloc::Global;
 use std::io;
@@ -89,7 +89,7 @@ where
 {
     match open_store(rt, disks, start, store, errors) {
         Ok(opened) => {
-            let OpenedStore { mut session, .. } = opened;
+            let Opened { mut session, .. } = opened;
             let reported = adopt_text(rt, rt.alloc(), &mut session, text, output);
             let device = close_store(rt, store, session);
             (reported, Some(device))

@@ -28,7 +28,7 @@ use command_server::FailureTracking;
 use file_disk::{DeviceFiles, FileAssumptions, FileCalls, FileDevice, HostFile};
 use instance_read::ReadFault;
 use plan_types::Problem;
-use recover::OpenedStore;
+use recover::Opened;
 use sector_disk::Sectors;
 use std::alloc::Global;
 use std::io;
@@ -167,7 +167,7 @@ where
 }
 
 // Returns whether there is no such file, or an empty one, which `load` leaves if the disk is full.
-fn needs_new_file<D: Sectors>(opening: &Result<OpenedStore<D>, OpenFailure<D>>) -> bool
+fn needs_new_file<D: Sectors>(opening: &Result<Opened<D>, OpenFailure<D>>) -> bool
     ensures { result ≡ needs_new_file D.Sectors opening.now }
 {
     match opening {
@@ -195,7 +195,7 @@ fn is_not_found(cause: Option<io::Error>) -> bool
 fn load_opening<R: Eprint + AllocGlobal, T: FileAssumptions, W: Write>(
     rt: &R,
     store: &str,
-    opening: Result<OpenedStore<FileDevice<T>>, OpenFailure<FileDevice<T>>>,
+    opening: Result<Opened<FileDevice<T>>, OpenFailure<FileDevice<T>>>,
     command: Command,
     output: &mut FailureTracking<W>,
 ) -> (io::Result<u8>, Option<FileDevice<T>>)
@@ -216,7 +216,7 @@ fn load_opening<R: Eprint + AllocGlobal, T: FileAssumptions, W: Write>(
 // Executes the command if the session holds no instance, prints the answer and returns the device.
 fn load_session<D: Sectors + Drop, W: Write>(
     alloc: Global,
-    opened: OpenedStore<D>,
+    opened: Opened<D>,
     command: Command,
     output: &mut FailureTracking<W>,
 ) -> (io::Result<u8>, D)

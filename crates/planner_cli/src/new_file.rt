@@ -10,7 +10,7 @@ use crate::opening::{OpenFailure, open_device, open_session};
 use crate::stores::format_device;
 use checkpoint::{SECTORS, StoreFault};
 use file_disk::{DeviceFiles, FileAssumptions, FileCalls, FileDevice, FileRequest, HostFile};
-use recover::OpenedStore;
+use recover::Opened;
 use sector_disk::Sectors;
 use std::alloc::Global;
 use std::io::Write;
@@ -22,7 +22,7 @@ pub(crate) fn open_new<R: AllocGlobal, X: DeviceFiles, T: FileAssumptions, E: Wr
     start: T,
     store: &str,
     errors: &mut E,
-) -> Result<OpenedStore<FileDevice<T>>, OpenFailure<FileDevice<T>>>
+) -> Result<Opened<FileDevice<T>>, OpenFailure<FileDevice<T>>>
     ensures requests { X.requested disks.new ≡ (FileRequest.Create, store.now) ∷ X.requested disks.old }
     ensures opens { IsNewOpening ⟦<FileDevice<T> as Sectors>⟧
         (IsCreatedAt ⟦<HostFile as FileCalls>⟧.entries) store.now result }
@@ -38,7 +38,7 @@ fn open_in_new_file<T: FileAssumptions, E: Write>(
     alloc: Global,
     device: FileDevice<T>,
     errors: &mut E,
-) -> Result<OpenedStore<FileDevice<T>>, OpenFailure<FileDevice<T>>>
+) -> Result<Opened<FileDevice<T>>, OpenFailure<FileDevice<T>>>
     ensures { (path : List ℕ)
         → IsNewFile ⟦<FileDevice<T> as Sectors>⟧
         (IsCreatedAt ⟦<HostFile as FileCalls>⟧.entries path) device
@@ -58,7 +58,7 @@ fn format_and_open<T: FileAssumptions, E: Write>(
     alloc: Global,
     device: FileDevice<T>,
     errors: &mut E,
-) -> Result<OpenedStore<FileDevice<T>>, OpenFailure<FileDevice<T>>>
+) -> Result<Opened<FileDevice<T>>, OpenFailure<FileDevice<T>>>
     ensures { (path : List ℕ)
         → HoldsNoStore ⟦<FileDevice<T> as Sectors>⟧
         (IsCreatedAt ⟦<HostFile as FileCalls>⟧.entries path) device

@@ -20,7 +20,7 @@ use checkpoint::{FormatFault, StoreFault, images_hold_at_most_one_state};
 use file_disk::{
     DeviceFiles, FileAssumptions, FileCalls, FileDevice, FileRequest, HostFile, OpenError,
 };
-use recover::{OpenedStore, Session, steps_to_replay};
+use recover::{Opened, Session, steps_to_replay};
 use sector_disk::Sectors;
 use std::alloc::Global;
 use std::io;
@@ -43,12 +43,12 @@ pub(crate) struct Opening<D: Sectors> {
     /// Whether the number of replayed search steps could be printed. If it could not, opening goes on.
     pub reported: io::Result<()>,
     /// The session, or the fault and the device.
-    pub opened: Result<OpenedStore<D>, (StoreFault, D)>,
+    pub opened: Result<Opened<D>, (StoreFault, D)>,
 }
 
 impl<D: Sectors> Opening<D> {
     /// Returns the session, or the fault and the device, whether or not the line could be printed.
-    pub(crate) fn into_opened(self) -> Result<OpenedStore<D>, (StoreFault, D)>
+    pub(crate) fn into_opened(self) -> Result<Opened<D>, (StoreFault, D)>
         ensures { result ≡ self.opened }
     {
         let Opening { opened, .. } = self;
@@ -92,7 +92,7 @@ pub(crate) fn open_device<D: Sectors, E: Write>(
     alloc: Global,
     device: D,
     errors: &mut E,
-) -> Result<OpenedStore<D>, OpenFailure<D>>
+) -> Result<Opened<D>, OpenFailure<D>>
     ensures { IsOpening D.Sectors device result }
 {
     let opening = open_session(alloc, device, errors);
@@ -109,7 +109,7 @@ pub(crate) fn open_store<R: AllocGlobal, X: DeviceFiles, T: FileAssumptions, E: 
     start: T,
     store: &str,
     errors: &mut E,
-) -> Result<OpenedStore<FileDevice<T>>, OpenFailure<FileDevice<T>>>
+) -> Result<Opened<FileDevice<T>>, OpenFailure<FileDevice<T>>>
     ensures requests { X.requested disks.new ≡ (FileRequest.OpenExisting, store.now) ∷ X.requested disks.old }
     ensures opens { IsStoreOpening ⟦<FileDevice<T> as Sectors>⟧
         (IsOpenedExistingAt ⟦<HostFile as FileCalls>⟧.entries) store.now result }

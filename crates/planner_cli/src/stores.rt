@@ -29,7 +29,7 @@ use checkpoint::{FormatFault, Place, SECTORS, format, format_with};
 use command_core::State;
 use command_server::{FailedAnswer, FailureTracking, ServeFault, StrictWriter, serve_source};
 use file_disk::{DeviceFiles, FileAssumptions, FileCalls, FileDevice, FileRequest, HostFile};
-use recover::{OpenedStore, Session, read_version_1};
+use recover::{Opened, Session, read_version_1};
 use sector_disk::Sectors;
 use std::alloc::Global;
 use std::io;
@@ -101,7 +101,7 @@ where
 {
     match open_with_warning(rt, disks, start, store, errors) {
         Ok(opened) => {
-            let OpenedStore {
+            let Opened {
                 mut session,
                 replayed,
             } = opened;

@@ -155,6 +155,7 @@ fn timetable_of(alloc: Global, form: Form, examined: &Examination) -> Result<Str
     match examined {
         Examination::BadInstance(_) => Ok(String::new(alloc)),
         Examination::BadSolution(_) => Ok(String::new(alloc)),
+        Examination::BadCost(..) => Ok(String::new(alloc)),
         Examination::Judged(problem, plan, verdict) => {
             solution_text(alloc, form, problem, plan, *verdict)
         }

@@ -16,7 +16,7 @@ use checkpoint::{
     IntegrityWarning, IntegrityWarnings, StoreFault, check_integrity, images_hold_at_most_one_state,
 };
 use file_disk::{DeviceFiles, FileAssumptions, FileCalls, FileDevice, FileRequest, HostFile};
-use recover::OpenedStore;
+use recover::Opened;
 use sector_disk::Sectors;
 use std::alloc::Global;
 use std::io;
@@ -30,7 +30,7 @@ pub(crate) fn open_with_warning<R: AllocGlobal, X: DeviceFiles, T: FileAssumptio
     start: T,
     store: &str,
     errors: &mut E,
-) -> Result<OpenedStore<FileDevice<T>>, OpenFailure<FileDevice<T>>>
+) -> Result<Opened<FileDevice<T>>, OpenFailure<FileDevice<T>>>
     ensures requests { X.requested disks.new ≡ (FileRequest.OpenExisting, store.now) ∷ X.requested disks.old }
     ensures opens { IsStoreOpening ⟦<FileDevice<T> as Sectors>⟧
         (IsOpenedExistingAt ⟦<HostFile as FileCalls>⟧.entries) store.now result }
@@ -49,7 +49,7 @@ fn open_device_with_warning<D: Sectors, E: Write>(
     device: D,
     store: &str,
     errors: &mut E,
-) -> Result<OpenedStore<D>, OpenFailure<D>>
+) -> Result<Opened<D>, OpenFailure<D>>
     ensures { IsOpening D.Sectors device result }
 {
     let opening = open_session_with_warning(alloc, device, store, errors);

@@ -51,7 +51,7 @@ pub use laws::{
     crashed_openings_can_be_retried, recovery_keeps_every_acknowledged_command, restarts_compose,
     runs_compose,
 };
-pub use opening::{OpenedStore, read_state, steps_to_replay};
+pub use opening::{Opened, read_state, steps_to_replay};
 pub use replies::{Reply, Run};
 pub use restarts::{Ending, Restart, Restarts, run_restarts};
 pub use rounds::{Halt, Round, Rounds, RoundsFault, run_round, run_rounds};

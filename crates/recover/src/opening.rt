@@ -19,9 +19,7 @@ ghost use Rattle.recover.specs.Replaying.{IsReplayFault, IsReplay, ReportsState}
 
 use crate::replaying::{replay, steps_of_commands, steps_of_state};
 use crate::sessions::Session;
-use checkpoint::{
-    MIN_SECTORS, Place, StoreContent, StoreFault, images_hold_at_most_one_state, load,
-};
+use checkpoint::{Loaded, MIN_SECTORS, Place, StoreFault, images_hold_at_most_one_state, load};
 use command_core::State;
 use sector_disk::{DeviceFault, Sectors};
 use state_codec::version::Version;
@@ -43,7 +41,7 @@ fn sync_and_load<D: Sectors>(
     alloc: Global,
     device: &mut D,
     version: Version,
-) -> Result<StoreContent, StoreFault>
+) -> Result<Loaded, StoreFault>
     ensures loaded { IsLoaded D.Sectors version result device.old device.new }
     ensures called { Calls D.Sectors (more result 1) (faults_after_reading result)
         device.old device.new }
@@ -59,7 +57,7 @@ fn sync_and_load<D: Sectors>(
 }
 
 // Replays the commands of the records on the loaded state.
-fn replay_records(alloc: Global, loaded: StoreContent) -> Result<RecoveredState, StoreFault>
+fn replay_records(alloc: Global, loaded: Loaded) -> Result<RecoveredState, StoreFault>
     requires { IsState loaded.state }
     ensures ok { IfOk result (IsReplay loaded.state loaded.commands.items loaded.place) }
     ensures refused { IfErr result (IsReplayFault loaded.state loaded.commands.items) }
@@ -122,7 +120,7 @@ pub fn steps_to_replay<D: Sectors>(alloc: Global, device: &mut D) -> Result<u64,
 
 /// An opened store.
 #[derive(Drop)]
-pub struct OpenedStore<D: Sectors> {
+pub struct Opened<D: Sectors> {
     pub session: Session<D>,
     /// The number of replayed search steps.
     pub replayed: u64,
@@ -137,7 +135,7 @@ impl<D: Sectors> Session<D> {
     /// returned without the refusal. At each moment within the call a crash leaves an image that it might have
     /// left before, and after `Ok` one that recovers to the state. A device of fewer than 802 sectors is
     /// `NotFormatted`, and is not called.
-    pub fn open(alloc: Global, device: D) -> Result<OpenedStore<D>, (StoreFault, D)>
+    pub fn open(alloc: Global, device: D) -> Result<Opened<D>, (StoreFault, D)>
         ensures { MatchResult result
             (λ opened. IsOpened D.Sectors device opened.session opened.replayed)
             (λ refused. IsRefused D.Sectors device refused.1 refused.0) }
@@ -145,7 +143,7 @@ impl<D: Sectors> Session<D> {
         images_hold_at_most_one_state();
         let mut device = device;
         match recover(alloc, &mut device, Version::Two) {
-            Ok(found) => Ok(OpenedStore {
+            Ok(found) => Ok(Opened {
                 session: Session::over(device, found.state, found.place),
                 replayed: found.replayed,
             }),

@@ -2,7 +2,7 @@
 
 use checkpoint::{format, format_with};
 use command_core::State;
-use recover::{OpenedStore, Session};
+use recover::{Opened, Session};
 use sector_disk::{DeviceFault, MemDevice, SECTOR_SIZE, Sectors};
 use state_codec::decode_state;
 use std::alloc::Global;
@@ -94,7 +94,7 @@ fn format_as(alloc: Global, device: &mut MemDevice, state: &State) -> Result<(),
     Ok(())
 }
 
-pub fn open(alloc: Global, device: MemDevice) -> Result<OpenedStore<MemDevice>, Fail> {
+pub fn open(alloc: Global, device: MemDevice) -> Result<Opened<MemDevice>, Fail> {
     match Session::open(alloc, device) {
         Ok(opened) => Ok(opened),
         Err((fault, _)) => Err(fault.into()),

@@ -4,8 +4,8 @@ use crate::tests::builders::{
     LOADED_V1, SECTORS, empty_store, header, read_sector, sector_of, write_sector,
 };
 use checkpoint::{
-    FormatFault, Place, StoreContent, StoreFault, commit_record, commit_snapshot, format,
-    format_with, load, load_latest, load_latest_v1,
+    FormatFault, Loaded, Place, StoreFault, commit_record, commit_snapshot, format, format_with,
+    load, load_latest, load_latest_v1,
 };
 use command_core::{Command, State};
 use sector_disk::{DeviceFault, MemDevice, Sectors};
@@ -160,7 +160,7 @@ fn records_follow_one_another(rt: HostRuntime) -> Result<(), Fail> {
 }
 
 // Returns the content of the store on the device.
-fn held_by(alloc: Global, mut device: MemDevice) -> Result<StoreContent, Fail> {
+fn held_by(alloc: Global, mut device: MemDevice) -> Result<Loaded, Fail> {
     Ok(load_latest(alloc, &mut device)?)
 }
 

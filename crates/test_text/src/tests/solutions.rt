@@ -5,7 +5,10 @@ ghost use Rattle.route_sched.specs.Route.{IsPlan};
 use crate::tests::builders::{Form, Part, text_of};
 use plan_audit::{Verdict, audit, routes_that_pass_are_a_plan};
 use plan_types::{Kind, Pins, Plan, Problem, Request, Routes, Stop, limits};
-use sol_text::{SolFault, SolFaultKind, WriteSolFault, cost_tail, cost_word, read_sol, write_sol};
+use sol_text::{
+    SolFault, SolFaultKind, WriteSolFault, cost_tail, cost_word, read_printed_routes, read_routes,
+    read_sol, write_sol,
+};
 use std::alloc::{AllocError, Global};
 use std::test::Fail;
 use test_examples::routes_of;
@@ -102,6 +105,121 @@ fn reports_the_first_fault(rt: HostRuntime) {
     for (text, line, kind) in &FAULTS {
         assert!(rt; is_refused(rt.alloc(), text, *line, *kind));
     }
+}
+
+/// Solutions, with their routes if only these are read. Each route is followed by a 0.
+const ROUTES: [(&[u8], &[u32]); 8] = [
+    // A heading is skipped.
+    (
+        b"Instance name : lc101\nSolution\n\nRoute 1 : 2 1\nRoute 2 : 3\n",
+        &[2, 1, 0, 3, 0],
+    ),
+    // A line with two words after Cost is no cost line, and so part of a heading.
+    (b"Cost 1 2\nRoute #1: 1", &[1, 0]),
+    // The cost is not parsed, and no line after it is read.
+    (b"Route #1: 1\nCost x\nRoute #2: 2", &[1, 0]),
+    (b"Route #1: 1\nCost -1\nRoute #2: x", &[1, 0]),
+    (b"Cost 5\nRoute #1: 1", &[]),
+    // There is no cost line.
+    (b"\nRoute #1:\n\nRoute #2: 4", &[0, 4, 0]),
+    // No line is a route line.
+    (b"Solution\nnothing\n", &[]),
+    (b"", &[]),
+];
+
+// Returns whether these routes, each followed by a 0, are read.
+fn has_routes(alloc: Global, text: &[u8], stops: &[u32]) -> Result<bool, Fail> {
+    let routes = read_routes(alloc, text)?;
+    Ok(stops_of(alloc, &routes)?.as_slice() == stops)
+}
+
+#[test]
+fn reads_only_routes(rt: HostRuntime) -> Result<(), Fail> {
+    for (text, stops) in &ROUTES {
+        assert!(rt; has_routes(rt.alloc(), text, stops)?);
+    }
+    Ok(())
+}
+
+/// Solutions, with the line and the kind of the first fault of their routes.
+const ROUTES_FAULTS: [(&[u8], u64, SolFaultKind); 5] = [
+    (b"head\nRoute #1: 1\ntail", 3, SolFaultKind::BadLine),
+    (b"Route #1:\nRoute", 2, SolFaultKind::BadLine),
+    (b"Route #1: 1\n\nCost 1 2", 3, SolFaultKind::BadLine),
+    (b"head\nRoute #1: x\ntail", 2, SolFaultKind::BadNumber),
+    (
+        b"head\r\n\r\nRoute #1: 4294967296\r\nCost 1",
+        3,
+        SolFaultKind::BadNumber,
+    ),
+];
+
+fn are_routes_refused(alloc: Global, text: &[u8], line: u64, kind: SolFaultKind) -> bool {
+    match read_routes(alloc, text) {
+        Ok(_) => false,
+        Err(fault) => fault.line == line && fault.kind == kind,
+    }
+}
+
+#[test]
+fn reports_the_first_fault_of_routes(rt: HostRuntime) {
+    for (text, line, kind) in &ROUTES_FAULTS {
+        assert!(rt; are_routes_refused(rt.alloc(), text, *line, *kind));
+    }
+}
+
+/// The expected cost of a solution whose routes can be read, or the line and the kind of its fault.
+#[derive(Clone, Copy)]
+enum PrintedCost {
+    Cost(u64),
+    Fault(u64, SolFaultKind),
+}
+
+/// Solutions whose routes can be read, with their routes, each followed by a 0, and their cost.
+const PRINTED: [(&[u8], &[u32], PrintedCost); 4] = [
+    (b"Route #1: 1\nCost 7\nx", &[1, 0], PrintedCost::Cost(7)),
+    (
+        b"Route #1: 2 1\n\n",
+        &[2, 1, 0],
+        PrintedCost::Fault(3, SolFaultKind::NoCost),
+    ),
+    (
+        b"Route #1: 1\nCost 7.5\nCost 8",
+        &[1, 0],
+        PrintedCost::Fault(2, SolFaultKind::BadNumber),
+    ),
+    (b"", &[], PrintedCost::Fault(1, SolFaultKind::NoCost)),
+];
+
+fn is_cost(read: Result<u64, SolFault>, want: PrintedCost) -> bool {
+    match want {
+        PrintedCost::Cost(cost) => matches!(read, Ok(is) if is == cost),
+        PrintedCost::Fault(line, kind) => {
+            matches!(read, Err(fault) if fault.line == line && fault.kind == kind)
+        }
+    }
+}
+
+// Returns whether these routes, each followed by a 0, and this cost are read.
+fn is_printed(alloc: Global, text: &[u8], stops: &[u32], cost: PrintedCost) -> Result<bool, Fail> {
+    let printed = read_printed_routes(alloc, text)?;
+    Ok(is_cost(printed.cost, cost) && stops_of(alloc, &printed.routes)?.as_slice() == stops)
+}
+
+fn refuses_heading(alloc: Global) -> bool {
+    match read_printed_routes(alloc, b"head\nRoute #1: 1\n") {
+        Ok(_) => false,
+        Err(fault) => fault.line == 1 && fault.kind == SolFaultKind::BadLine,
+    }
+}
+
+#[test]
+fn reads_routes_without_a_valid_cost(rt: HostRuntime) -> Result<(), Fail> {
+    for (text, stops, cost) in &PRINTED {
+        assert!(rt; is_printed(rt.alloc(), text, stops, *cost)?);
+    }
+    assert!(rt; refuses_heading(rt.alloc()));
+    Ok(())
 }
 
 #[test]
