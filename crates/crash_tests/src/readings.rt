@@ -11,7 +11,7 @@ use crate::examples::{Example, applied, commands_of, invalid_data, or_invalid_da
 use crate::plain_reader::held;
 use crate::tables::{count, print_row};
 use checkpoint::{
-    Place, SECTORS, StoreContent, StoreFault, commit_record, commit_snapshot, format, format_with,
+    Loaded, Place, SECTORS, StoreFault, commit_record, commit_snapshot, format, format_with,
     load_latest,
 };
 use command_core::{Command, State};
@@ -235,13 +235,13 @@ struct Reading {
     text: String,
 }
 
-fn reported(alloc: Global, loaded: &Result<StoreContent, StoreFault>) -> io::Result<Reading> {
+fn reported(alloc: Global, loaded: &Result<Loaded, StoreFault>) -> io::Result<Reading> {
     let held = place_of_load(loaded)?;
     let text = format!(in alloc; "{loaded:?}")?;
     Ok(Reading { held, text })
 }
 
-fn place_of_load(loaded: &Result<StoreContent, StoreFault>) -> io::Result<SequenceAndUsed> {
+fn place_of_load(loaded: &Result<Loaded, StoreFault>) -> io::Result<SequenceAndUsed> {
     match loaded {
         Ok(loaded) => Ok((loaded.place.sequence, loaded.place.used)),
         Err(StoreFault::NotFormatted) => Ok((0, 0)),
