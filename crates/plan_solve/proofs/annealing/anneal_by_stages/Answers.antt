@@ -9,7 +9,7 @@ use Rattle.plan_solve.proofs.annealing.anneal_by_stages.Goals as goal
 pub loop-command-init : goal.loop-command-init
 loop-command-init g c = λ begun holds.
     begins begun c.args.steps c.from.result (g.W.Write.contents c.args.progress.now) (g.W.Write.contents c.write_progress-is_written.new.progress) _ _ _ c.from.ensures holds
-    c.in_ok-incumbent_of.ensures.job refl (λ t. (c.write_progress-is_written.ensures t).1)
+    c.in_ok-job.ensures.job refl (λ t. (c.write_progress-is_written.ensures t).1)
 
 pub loop-command-preserved : goal.loop-command-preserved
 loop-command-preserved g c = λ begun holds.
@@ -19,7 +19,7 @@ loop-command-preserved g c = λ begun holds.
     let all : commands_of l.left l.planner ≡ command ∷ commands_of following (effect l.planner command) =
     subst (λ s. commands_of l.left s ≡ command ∷ commands_of following (effect s command)) c.state.ensures c.in-Some.ensures in
     goes_on begun c.args.steps (g.W.Write.contents c.args.progress.now) (g.W.Write.contents l.progress) (g.W.Write.contents c.write_progress_if_due-reported.new.progress) l.reported
-    c.write_progress_if_due-reported.result l.planner c.execute.new.planner l.left following command _ (l.invariant begun holds) all c.in_ok-execute.ensures c.in_ok-incumbent_of-2.ensures.job
+    c.write_progress_if_due-reported.result l.planner c.execute.new.planner l.left following command _ (l.invariant begun holds) all c.in_ok-execute.ensures c.in_ok-job-2.ensures.job
     c.write_progress_if_due-reported.ensures.parts c.write_progress_if_due-reported.ensures.reported
 
 pub loop-command-smaller : goal.loop-command-smaller

@@ -11,7 +11,7 @@ pub loop-parts-init : goal.loop-parts-init
 loop-parts-init g c = λ begun holds.
     let law = c.searches_add_up.ensures in
     begins law.two law.many begun c.args.steps (g.W.Write.contents c.args.progress.now) (g.W.Write.contents c.write_progress-is_written.new.progress) c.write_progress-is_written.result _ _ holds
-    c.in_ok-incumbent_of.ensures.job (λ t. (c.write_progress-is_written.ensures t).1)
+    c.in_ok-job.ensures.job (λ t. (c.write_progress-is_written.ensures t).1)
 
 pub loop-parts-preserved-then-done-mark : goal.loop-parts-preserved-then-done-mark
 loop-parts-preserved-then-done-mark g c = λ begun holds.
@@ -24,7 +24,7 @@ loop-parts-preserved-then-done-mark g c = λ begun holds.
     let is : c.twentieths-mark.result ≡ twentieths c.args.steps (l.parts + 1) = c.twentieths-mark.ensures in
     subst (λ m. IsTelling begun c.args.steps before next later c.search.new.planner m (l.parts + 1)) (sym is)
     (tells law.two law.many begun c.args.steps before now next l.is_written later l.planner _ _ l.done l.parts (l.invariant begun holds) c.loop-parts-test.true
-    (subst (λ m. l.done < m) is c.if-done-mark.true) (c.in_ok-search.ensures ∙ ap (λ m. effect l.planner (Search (m - l.done))) is) c.in_ok-incumbent_of-2.ensures.job c.write_progress-is_written-then-done-mark.ensures)
+    (subst (λ m. l.done < m) is c.if-done-mark.true) (c.in_ok-search.ensures ∙ ap (λ m. effect l.planner (Search (m - l.done))) is) c.in_ok-job-2.ensures.job c.write_progress-is_written-then-done-mark.ensures)
 
 pub loop-parts-preserved : goal.loop-parts-preserved
 loop-parts-preserved g c = λ begun holds.
