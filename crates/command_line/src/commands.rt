@@ -307,7 +307,12 @@ fn solves_command<'a>(alloc: Global, kinds: &'a [&'a str]) -> CommandResult<'a>
 fn kind_arg<'a>(alloc: Global, kinds: &'a [&'a str]) -> Arg<'a>
     ensures { IsArg (kind_rule kinds.entry) result }
 {
-    required_arg(alloc, "KIND", "The format of the instance, and perhaps its scale").value_parser(kinds)
+    required_arg(
+        alloc,
+        "KIND",
+        "The format of the instance, and perhaps its scale",
+    )
+    .value_parser(kinds)
 }
 
 // Returns the argument for the mode of `run`.
