@@ -4,7 +4,7 @@ ghost use Rattle.std.specs.Io.KnownBytes.{Appends};
 ghost use Rattle.command_line.specs.Invocations.{task_of};
 ghost use Rattle.request_explanation.specs.Why.{reason_text};
 ghost use Rattle.request_explanation.specs.declared.line_prefixes.LinePrefix.TheVariants.{Named};
-ghost use Rattle.planner_cli.specs.Solve.{PrintsSolveFault, PrintsPlan, PrintsReasons, PrintsSolveResult, SolvesInstance, left_out_text, route_count_text, unplanned_line};
+ghost use Rattle.planner_cli.specs.Solve.{PrintsSolveFault, PrintsPlan, PrintsReasons, PrintsSolveResult, PrintsUnplanned, SolvesInstance, left_out_text, route_count_text, unplanned_line};
 ghost use Rattle.auditor_cli.specs.Reads.{IsRead};
 
 use auditor_cli::status::{BROKEN, DONE, REFUSED};
@@ -88,6 +88,19 @@ fn print_plan<W: Write, E: Write>(
 {
     write_flushed(output, &solved.text)?;
     print_route_count(&solved.job, errors)?;
+    print_requests_left_out(alloc, solved, errors)
+}
+
+// Prints the requests that a plan leaves out, with the reasons. Prints nothing if it leaves none out.
+fn print_requests_left_out<E: Write>(
+    alloc: Global,
+    solved: &SolvedPlan,
+    errors: &mut E,
+) -> io::Result<u8>
+    ensures status { IfOk result (λ status. status ≤ 4) }
+    ensures reported { IfOk result (PrintsUnplanned solved.now.job solved.now.unplanned.items
+        (E.contents errors.old) (E.contents errors.new)) }
+{
     if solved.unplanned.is_empty() {
         return Ok(DONE);
     }
