@@ -36,7 +36,7 @@ AS_SHOWN = (
 ELSEWHERE = {
     "seq 16 | parallel --sshlogin": "two machines",
     "seq 16 | parallel 'planner solve": "many.sh",
-    "for it in $(cut": "published.sh",
+    "while read -r it cost": "published.sh",
     "./planner solve lilim:1000 lc101.txt": "published.sh",
     "now=600": "store.py",
     "cp day.store day.new": "store.py",
