@@ -1,4 +1,4 @@
--- What the calls that create a file keep: they change the file only under its lock, and keep its first bytes.
+-- The calls that create a file change it only under its lock, and keep its first bytes.
 use Rattle.std.specs.Prelude.{ℕ, min, nat_le, Bool, true, false, List, [], ◌∷◌, None, if◌then◌else◌}
 use Rattle.system_calls.specs.declared.system_call.SystemCall.{SystemCall}
 use Rattle.system_calls.specs.declared.system_call.SystemCall.TheVariants.{Lock, Measure, SetLen, WriteAt, WriteAtFailed}
@@ -18,8 +18,8 @@ keeps_bytes kept (WriteAt offset moved) = nat_le kept offset
 keeps_bytes kept (WriteAtFailed offset kind) = nat_le kept offset
 keeps_bytes kept _ = true
 
--- How far the creation of a file has come: its exclusive lock is not taken; it is; under the lock the file had
--- this length. `Unsafe`: the file was changed before that, or bytes were changed that are to be kept.
+-- The state of the creation of a file: its exclusive lock is not taken; it is; under the lock the file had this
+-- length. `Unsafe`: the file was changed before that, or bytes were changed that are to be kept.
 pub data CreationState : Type 0 where
   Unlocked : CreationState
   Locked : CreationState

@@ -142,8 +142,8 @@ impl SwapStar {
         }
     }
 
-    // Returns the cheapest insertion of a customer into the route that another one leaves: where that one was, or
-    // elsewhere. At most two of the three best insertions are at the customer that leaves.
+    // Returns the cheapest insertion of a customer into the route that another one leaves: in the place of that
+    // customer, or elsewhere. At most two of the three best insertions are at the customer that leaves.
     fn replacing(&self, trips: &Trips, customer: u32, leaving: u32) -> Insertion {
         let node = trips.node(leaving);
         let legs = trips.leg(node.previous, customer) + trips.leg(customer, node.next);
